@@ -1,4 +1,4 @@
--- What the calls of a device over files make of the disk.
+-- Lemmas: what a device's calls on its files make of the disk.
 use Rattle.std.proofs.Common.{◌≡◌, ℕ, ◌<◌, ◌*◌, ◌/◌, ◌+◌, ◌-◌, Bool, true, false, List, [], ◌∷◌, ◌++◌, length, ap, refl, sym, subst, ◌∙◌, inl, inr, ⊎_elim, arith}
 use Rattle.std.specs.Prelude.{if◌then◌else◌, ◌&&◌, ◌==◌, map, replicate, Result, Ok, Err, OnOk, OnErr}
 use Rattle.std.specs.List.{AllByRecursion}
@@ -12,18 +12,18 @@ use Rattle.file_device.proofs.GatheredBlocks.{agreed-before, over-same}
 use Rattle.file_device.specs.Files.{FileContents, FileState, FileMoments, fitted, after_call, after_calls, AgreesEach, FailsToHandOn, HandsBlock, HasAgreed, Takes, asked_calls, counted, failed_for_good, file_shape, file_state, files_disk, handed_on}
 use Rattle.block_device.proofs.WholeCells.{IsWhole, one_of_two, alone, over}
 
--- the block that begins at a block's place is that block
+-- a block's place gives its number
 pub block_at : (at n size : ℕ) → 0 < size → at ≡ n * size → at / size ≡ n
 block_at at n size some place = ap (λ k. k / size) place ∙ mul-div_cancel n some
 
--- a read at the place of a block that agrees gave what the file has there
+-- a read that agrees gave what the file has at the block
 pub agreed_read : (contents : FileContents) {s now : FileState} (calls : List FileCall) (at n : ℕ) (area : Area) (bytes : List ℕ) → s ≡ now → 0 < s.block_size → at ≡ n * s.block_size →
     calls ≡ Read area at bytes ∷ s.calls → AgreesEach contents s.block_size calls → bytes ≡ (files_disk contents now area n).reads
 agreed_read contents {s = s} calls at n area bytes same some place noted agrees =
     let Reads : FileState → ℕ → List ℕ = λ t b. (files_disk contents t area b).reads in
     (subst (AgreesEach contents s.block_size) noted agrees).0 ∙ ap (Reads s) (block_at at n s.block_size some place) ∙ ap (λ t. Reads t n) same
 
--- the device as it is where these calls were asked of it
+-- the device's state if these calls were asked of it
 abbrev pub asked_for : FileContents → FileState → List FileCall → DeviceState
 asked_for contents old cs =
     let m = after_calls contents old.block_size cs in
@@ -38,7 +38,7 @@ takes_asked contents {old} {new} {call} takes =
     ∙ sym (append_assoc new.gathered takes.made old.calls)
     ∙ ap (λ (cs : List FileCall). cs ++ old.calls) takes.due)
 
--- that writes the block at its place
+-- that write changes the block at its place
 pub takes_moves : (contents : FileContents) {old new : FileState} (area : Area) (n : ℕ) (bytes : List ℕ) → 0 < old.block_size → Takes old new (Wrote area (n * old.block_size) bytes) →
     Moves (file_state contents old) (file_state contents new) (written (file_state contents old).disk area n bytes)
 takes_moves contents {old} {new} area n bytes some takes =
@@ -60,7 +60,7 @@ takes_agreed contents {old} {new} takes agrees =
     agreed-before contents old.block_size takes.made old.calls
     (subst (AgreesEach contents old.block_size) takes.calls (subst (HasAgreed contents) takes.rest agrees))
 
--- some of the due writes were made, and all others are gathered
+-- some due writes were made, and the others are gathered
 pub takes_as : {old new : FileState} {call : FileCall} (made gathered : List FileCall) → new ≡ record (counted old) { gathered = gathered; calls = made ++ old.calls } → gathered ++ made ≡ call ∷ old.gathered →
     Takes old new call
 takes_as {old} made gathered is due = record {
@@ -77,28 +77,28 @@ takes_gathered {old} area n bytes counts is =
     let due : List FileCall = Wrote area (n * old.block_size) bytes ∷ old.gathered in
     takes_as [] due (is ∙ ap (λ (s : FileState). record s { gathered = Wrote area (n * s.block_size) bytes ∷ s.gathered }) counts) (append-nil due)
 
--- or alone, once they are handed on
+-- or alone, after the others were written
 pub takes_first : {old mid on new : FileState} (area : Area) (n : ℕ) (bytes : List ℕ) → mid ≡ counted old → on ≡ handed_on mid →
     new ≡ record on { gathered = Wrote area (n * on.block_size) bytes ∷ on.gathered } → Takes old new (Wrote area (n * old.block_size) bytes)
 takes_first {old} area n bytes counts hands is =
     takes_as old.gathered (Wrote area (n * old.block_size) bytes ∷ [])
     (is ∙ ap (λ (s : FileState). record s { gathered = Wrote area (n * s.block_size) bytes ∷ s.gathered }) (hands ∙ ap handed_on counts)) refl
 
--- or made behind them
+-- or written after them
 pub takes_made : {old mid on new : FileState} (area : Area) (n : ℕ) (bytes : List ℕ) → mid ≡ counted old → on ≡ handed_on mid →
     new ≡ record on { calls = Wrote area (n * on.block_size) bytes ∷ on.calls } → Takes old new (Wrote area (n * old.block_size) bytes)
 takes_made {old} area n bytes counts hands is =
     takes_as (Wrote area (n * old.block_size) bytes ∷ old.gathered) []
     (is ∙ ap (λ (s : FileState). record s { calls = Wrote area (n * s.block_size) bytes ∷ s.calls }) (hands ∙ ap handed_on counts)) refl
 
--- or it failed there
+-- or its write failed
 pub fails_made : (old mid on new : FileState) (area : Area) (n : ℕ) (bytes : List ℕ) → mid ≡ counted old → on ≡ handed_on mid →
     new ≡ record on { calls = WriteFailed area (n * on.block_size) bytes ∷ on.calls; has_failed = true; faults = one_more_fault on.faults } →
     new ≡ failed_for_good (handed_on old) (WriteFailed area (n * old.block_size) bytes)
 fails_made old mid on new area n bytes counts hands is =
     is ∙ ap (λ (s : FileState). record s { calls = WriteFailed area (n * s.block_size) bytes ∷ s.calls; has_failed = true; faults = one_more_fault s.faults }) (hands ∙ ap handed_on counts)
 
--- the count comes first
+-- counting the call first changes nothing here
 pub fails_counted : (old mid new : FileState) → mid ≡ counted old → FailsToHandOn mid new → FailsToHandOn (counted old) new
 fails_counted old mid new counts fails = subst (λ (s : FileState). FailsToHandOn s new) counts fails
 
@@ -112,7 +112,7 @@ pub for_good_agreed : (contents : FileContents) (old new : FileState) (call : Fi
 for_good_agreed contents old new call is agrees =
     agreed-before contents old.block_size old.gathered old.calls (subst (HasAgreed contents) is agrees).1
 
--- what was handed on was asked for before
+-- a premise after the gathered writes were made held before
 pub handed_agreed : (contents : FileContents) (old mid on : FileState) → mid ≡ counted old → on ≡ handed_on mid → HasAgreed contents on → HasAgreed contents old
 handed_agreed contents old mid on counts hands agrees =
     agreed-before contents old.block_size old.gathered old.calls (subst (HasAgreed contents) (hands ∙ ap handed_on counts) agrees)
@@ -130,7 +130,7 @@ pub counts-both : {T E P Q : Type 0} (r : Result T E) (old new : DeviceState) �
 counts-both (Ok v) old new ok err f g = f ok
 counts-both (Err e) old new ok err f g = g err
 
--- a device that fails to hand on what it gathered is as it was, but for the failure
+-- a device that failed to write what it gathered changes only its counts
 abbrev pub failed_once : FileContents → FileState → DeviceState
 failed_once contents old = record (file_state contents old) { faults = one_more_fault old.faults; calls = one_more_call old.calls_made }
 
@@ -148,7 +148,7 @@ fails_stays contents old new fails =
 pub fails_agreed : (contents : FileContents) (old new : FileState) → FailsToHandOn (counted old) new → HasAgreed contents new → HasAgreed contents old
 fails_agreed contents old new fails agrees = (subst (HasAgreed contents) fails.after agrees).1
 
--- one that failed leaves the block in one of two ways
+-- a failed write leaves the block in one of two ways
 either_way : (b : Bool) (old new : DeviceState) (area : Area) (n : ℕ) (bytes : List ℕ) →
     Moves old new (if b then written old.disk area n bytes else handed_over old.disk area n bytes) → Writes old new area n bytes
 either_way true old new area n bytes moves = Whole moves
@@ -166,7 +166,7 @@ failed_writes contents old new area n bytes some failed =
       past = ap (λ d. d.past) is;
     })
 
--- each value that may be held in a block of the disk has this length
+-- each value that a block may have has this length
 abbrev pub AreWhole : ℕ → Disk → Type 0
 AreWhole size disk = (a : Area) (n : ℕ) → IsWhole size (disk a n)
 
@@ -190,7 +190,7 @@ whole_either : (size : ℕ) (b : Bool) (x y : Disk) → AreWhole size x → AreW
 whole_either size true x y hx hy = hx
 whole_either size false x y hx hy = hy
 
--- one more call leaves each block whole
+-- one more call keeps each block whole
 whole_call : (contents : FileContents) (size : ℕ) (m : FileMoments) (c : FileCall) → AreWhole size m.disk → HandsBlock size c → AreWhole size (after_call contents size m c).disk
 whole_call contents size m (Measured area length) h e = h
 whole_call contents size m (Read area at bytes) h e = h
@@ -203,7 +203,7 @@ whole_call contents size m (GatheredFailed area at bytes) h e = h
 whole_call contents size m (Synced area) h e = whole_flushed size m.disk area h
 whole_call contents size m (SyncFailed area) h e = h
 
--- whatever is fitted fills a block
+-- a fitted value fills a block
 fitted_whole : (size : ℕ) (v : List ℕ) → length (fitted size v) ≡ size
 fitted_whole size v =
     let zeros : List ℕ = replicate (size - length v) 0 in
@@ -219,7 +219,7 @@ whole_first : (contents : FileContents) (size : ℕ) → AreWhole size (after_ca
 whole_first contents size a n u one =
     ⊎_elim (λ is. ap length is ∙ fitted_whole size (contents.first a n).reads) (λ more. fitted_each size (contents.first a n).others u more) one
 
--- calls that handed over whole blocks leave each block whole
+-- calls that hand over whole blocks keep each block whole
 pub whole_calls : (contents : FileContents) (size : ℕ) (calls : List FileCall) → AllByRecursion (HandsBlock size) calls → AreWhole size (after_calls contents size calls).disk
 whole_calls contents size [] all = whole_first contents size
 whole_calls contents size (c ∷ calls) all = whole_call contents size (after_calls contents size calls) c (whole_calls contents size calls all.1) all.0

@@ -1,4 +1,4 @@
--- What is read ahead is what the log reads.
+-- Lemmas: blocks that were read ahead are what the log reads.
 use Rattle.std.proofs.Common.{◌≡◌, ℕ, zero, suc, ◌<◌, ◌≤◌, ◌*◌, ◌/◌, ◌+◌, ◌-◌, List, [], ◌∷◌, ◌++◌, length, ap, refl, sym, subst, ◌∙◌, inl, inr, arith}
 use Rattle.std.specs.Prelude.{◌⊎◌, Bool, true, false, IsTrue, min, Result, Ok, Err, OnOk, OnErr}
 use Rattle.block_device.specs.State.{DeviceState, Stays, blocks_in}
@@ -18,7 +18,7 @@ use Rattle.file_device.proofs.GatheredBlocks.{agreed-before, apart-cell, block-w
 use Rattle.file_device.specs.Calls.{FileCall, Measured, Read, ReadFailed, Wrote, WriteFailed, GatheredFailed, Synced, SyncFailed}
 use Rattle.file_device.specs.Files.{AgreesEach, FileContents, FileMoments, FileState, HandsBlock, HasAgreed, KeepsBlocks, after_call, after_calls, asked_calls, counted, file_state, files_disk}
 
--- a call that asks for bytes alone leaves the disk
+-- a read leaves the disk
 reading-leaves : (contents : FileContents) (size : ℕ) (m : FileMoments) (c : FileCall) → IsReading c → after_call contents size m c ≡ m
 reading-leaves contents size m (Measured area length) is = absurd is
 reading-leaves contents size m (Read area at bytes) is = refl
@@ -29,14 +29,14 @@ reading-leaves contents size m (GatheredFailed area at bytes) is = absurd is
 reading-leaves contents size m (Synced area) is = absurd is
 reading-leaves contents size m (SyncFailed area) is = absurd is
 
--- and so do some of them
+-- and so do several
 pub readings-leave : (contents : FileContents) (size : ℕ) (more calls : List FileCall) → AllByRecursion IsReading more →
     after_calls contents size (more ++ calls) ≡ after_calls contents size calls
 readings-leave contents size [] calls all = refl
 readings-leave contents size (c ∷ more) calls all =
     reading-leaves contents size (after_calls contents size (more ++ calls)) c all.0 ∙ readings-leave contents size more calls all.1
 
--- what was read ahead asked for bytes alone
+-- reading ahead only reads
 pub reads-ask : (area : Area) (at size : ℕ) (bytes : List ℕ) (count : ℕ) → AllByRecursion IsReading (reads_of area at size bytes count)
 reads-ask area at size bytes zero = tt
 reads-ask area at size bytes (suc k) = (tt, reads-ask area at size bytes k)
@@ -54,14 +54,14 @@ last-or-before contents size calls n bytes m some k agrees before (inl is) =
     ∙ ap (λ (x : FileMoments). (x.disk Log (n + k)).reads) same
 last-or-before contents size calls n bytes m some k agrees before (inr less) = before less
 
--- where each read gave what the disk had, each block that was read ahead is what the log reads
+-- if all reads agreed, each block that was read ahead is what the log reads
 pub ahead-reads : (contents : FileContents) (size : ℕ) (calls : List FileCall) (n : ℕ) (bytes : List ℕ) (count : ℕ) → 0 < size → (k : ℕ) → k < count →
     AgreesEach contents size (reads_of Log (n * size) size bytes count ++ calls) → block_of size bytes k ≡ ((after_calls contents size calls).disk Log (n + k)).reads
 ahead-reads contents size calls n bytes zero some k none agrees = absurd (omega arith)
 ahead-reads contents size calls n bytes (suc m) some k below agrees =
     last-or-before contents size calls n bytes m some k agrees (λ less. ahead-reads contents size calls n bytes m some k less agrees.1) (either k m (omega arith))
 
--- what is kept stays kept behind calls that ask for bytes, whatever is gathered
+-- kept blocks stay right after reads, whatever is gathered
 pub kept-under : (contents : FileContents) (size : ℕ) (g : Gathered) (more calls : List FileCall) (a : Ahead) → AllByRecursion IsReading more → KeepsAhead contents size (due_of size g ++ calls) a →
     KeepsAhead contents size (due_of size g ++ (more ++ calls)) a
 kept-under contents size g more calls a all keeps =
@@ -73,7 +73,7 @@ kept-under contents size g more calls a all keeps =
           ∙ ap (λ (x : FileMoments). (x.disk Log (a.first + k)).reads) (sym (over-same contents size due (more ++ calls) calls (readings-leave contents size more calls all)));
     }
 
--- and so does what is kept of the log where none of its blocks is gathered
+-- and also over gathered blocks of home
 pub kept-over : (contents : FileContents) (size : ℕ) (g : Gathered) (calls : List FileCall) (a : Ahead) → 0 < size → IsFreeOf g Log → KeepsAhead contents size calls a →
     KeepsAhead contents size (due_of size g ++ calls) a
 kept-over contents size g calls a some free keeps = record {
@@ -83,7 +83,7 @@ kept-over contents size g calls a some free keeps = record {
       ∙ ap (λ (c : Cell). c.reads) (sym (apart-cell contents size calls g.area g.first g.bytes.items g.count some Log (a.first + k) (free-apart g Log (a.first + k) free)));
 }
 
--- a write to home, and a call that failed with what was gathered, leave it
+-- a write to home, and a failed write of gathered blocks, keep them right
 pub kept-home : (contents : FileContents) (size : ℕ) (calls : List FileCall) (a : Ahead) (at : ℕ) (bytes : List ℕ) → KeepsAhead contents size calls a → KeepsAhead contents size (Wrote Home at bytes ∷ calls) a
 kept-home contents size calls a at bytes keeps = record { fits = keeps.fits; reads = λ k below agrees. keeps.reads k below agrees.1 }
 
@@ -99,11 +99,11 @@ kept-failed contents size g calls a area at bytes keeps =
           ∙ ap (λ (x : FileMoments). (x.disk Log (a.first + k)).reads) (sym (over-same contents size due failed calls refl));
     }
 
--- where none is kept, all that is kept is right
+-- if none is kept, all kept blocks are right
 pub kept-none : (contents : FileContents) (size : ℕ) (calls : List FileCall) (a : Ahead) → a.count ≡ 0 → KeepsAhead contents size calls a
 kept-none contents size calls a none = record { fits = rw none (omega arith); reads = λ k below agrees. absurd (omega arith) }
 
--- what is kept where a block of an area is written, and where none is
+-- kept blocks are right after a write, which drops those of the log
 pub forgotten-wrote : (contents : FileContents) (size : ℕ) (calls : List FileCall) (area : Area) (at : ℕ) (bytes : List ℕ) (old new : Ahead) → IsForgotten area old new → KeepsAhead contents size calls old →
     KeepsAhead contents size (Wrote area at bytes ∷ calls) new
 forgotten-wrote contents size calls Log at bytes old new is keeps =
@@ -116,13 +116,13 @@ pub forgotten-kept : (contents : FileContents) (size : ℕ) (calls : List FileCa
 forgotten-kept contents size calls Log old new is keeps = subst (KeepsAhead contents size calls) (sym is) (kept-none contents size calls (record old { count = 0 }) refl)
 forgotten-kept contents size calls Home old new is keeps = subst (KeepsAhead contents size calls) (sym is) keeps
 
--- a block of an area ends at a number of the system
+-- the end of a block fits in 64 bits
 pub small-place : (area : Area) (size log home n : ℕ) → log < 18446744073709551616 → home < 18446744073709551616 →
     n < blocks_in (record { block_size = size; log_blocks = log / size; home_blocks = home / size }) area → n * size + size < 18446744073709551616
 small-place Log size log home n few_log few_home there = omega (arith, block-within n (log / size) size there, div-mul-le_self log size)
 small-place Home size log home n few_log few_home there = omega (arith, block-within n (home / size) size there, div-mul-le_self home size)
 
--- one more block is gathered, or none
+-- one more block is gathered, or none, and the kept blocks are right
 pub gather-kept : (contents : FileContents) (size : ℕ) (calls : List FileCall) (g more : Gathered) (a b : Ahead) (area : Area) (n : ℕ) (bytes : List ℕ) (taken : Bool) → length bytes ≡ size → n * size + size < 18446744073709551616 →
     KeepsBlocks size (due_of size g ++ calls) → KeepsAhead contents size (due_of size g ++ calls) a → KeepsGathered size g → IsForgotten area a b →
     (IsTrue taken → IsPushed g more area n bytes) → (taken ≡ false → HoldsSame g more) →
@@ -155,7 +155,7 @@ gather-kept contents size calls g more a b area n bytes false whole small keeps 
       record { whole = rw count (ap (λ (b : List ℕ). length b) same.items ∙ room.whole); few = rw count room.few; small = rw (first, count) room.small },
     )
 
--- what was asked for hands over nothing
+-- a read hands over nothing
 reading-hands : (size : ℕ) (c : FileCall) → IsReading c → HandsBlock size c
 reading-hands size (Measured area length) is = absurd is
 reading-hands size (Read area at bytes) is = tt
@@ -174,13 +174,13 @@ pub hand-under : (size : ℕ) (due more calls : List FileCall) → AllByRecursio
 hand-under size [] more calls all whole = readings-hand size more calls all whole
 hand-under size (c ∷ due) more calls all whole = (whole.0, hand-under size due more calls all whole.1)
 
--- a device that has just read a block keeps what it has to
+-- the invariant holds after a read
 pub read-kept : (contents : FileContents) (size : ℕ) (g : Gathered) (calls cs : List FileCall) (a : Ahead) (call : FileCall) → IsReading call → cs ≡ call ∷ calls → KeepsBlocks size (due_of size g ++ calls) → KeepsAhead contents size (due_of size g ++ calls) a →
     KeepsBlocks size (due_of size g ++ cs) × KeepsAhead contents size (due_of size g ++ cs) a
 read-kept contents size g calls cs a call is noted keeps ahead =
     rw noted (record { some = keeps.some; whole = hand-under size (due_of size g) (call ∷ []) calls (is, tt) keeps.whole }, kept-under contents size g (call ∷ []) calls a (is, tt) ahead)
 
--- and so does one that has handed on what it gathered
+-- and after the gathered blocks were written
 pub none-due : (size : ℕ) (g : Gathered) → g.count ≡ 0 → due_of size g ≡ []
 none-due size g none = ap (writes_of g.area (g.first * size) size g.bytes.items) none
 
@@ -194,7 +194,7 @@ handed-kept contents size g none calls cs a empty count noted keeps ahead =
       record { whole = rw (empty, count) (omega arith); few = rw count (omega arith); small = λ some. absurd (omega arith) },
     )
 
--- or failed to
+-- or could not be written
 failed-hand : (size : ℕ) (due calls : List FileCall) (area : Area) (at : ℕ) (bytes : List ℕ) → AllByRecursion (HandsBlock size) (due ++ calls) → AllByRecursion (HandsBlock size) (due ++ (GatheredFailed area at bytes ∷ calls))
 failed-hand size [] calls area at bytes whole = (tt, whole)
 failed-hand size (c ∷ due) calls area at bytes whole = (whole.0, failed-hand size due calls area at bytes whole.1)
@@ -204,7 +204,7 @@ pub failed-kept : (contents : FileContents) (size : ℕ) (g : Gathered) (calls c
 failed-kept contents size g calls cs a area at bytes noted keeps ahead =
     rw noted (record { some = keeps.some; whole = failed-hand size (due_of size g) calls area at bytes keeps.whole }, kept-failed contents size g calls a area at bytes ahead)
 
--- blocks that were just read ahead are kept rightly
+-- blocks that were just read ahead are right
 pub kept-ahead : (contents : FileContents) (size : ℕ) (calls : List FileCall) (n : ℕ) (bytes : List ℕ) (count : ℕ) (a : Ahead) → 0 < size → length bytes ≡ count * size →
     a.bytes.items ≡ bytes → a.first ≡ n → a.count ≡ count → KeepsAhead contents size (reads_of Log (n * size) size bytes (length bytes / size) ++ calls) a
 kept-ahead contents size calls n bytes count a some long is_bytes is_first is_count =
@@ -220,7 +220,7 @@ kept-ahead contents size calls n bytes count a some long is_bytes is_first is_co
           );
     }
 
--- a device that has just read ahead keeps what it has to
+-- the invariant holds after reading ahead
 pub read-ahead-kept : (contents : FileContents) (size : ℕ) (g : Gathered) (calls cs : List FileCall) (n at count : ℕ) (a : Ahead) (bytes : List ℕ) → IsFreeOf g Log → KeepsBlocks size (due_of size g ++ calls) → at ≡ n * size →
     length bytes ≡ count * size → cs ≡ reads_of Log at size bytes (length bytes / size) ++ calls → a.bytes.items ≡ bytes → a.first ≡ n → a.count ≡ count →
     KeepsBlocks size (due_of size g ++ cs) × KeepsAhead contents size (due_of size g ++ cs) a
@@ -231,7 +231,7 @@ read-ahead-kept contents size g calls cs n at count a bytes free keeps place who
       kept-over contents size g (asked ++ calls) a keeps.some free (kept-ahead contents size calls n bytes count a keeps.some whole is_bytes is_first is_count),
     )
 
--- and so does one whose reading ahead failed
+-- and after reading ahead failed
 pub failed-ahead-kept : (contents : FileContents) (size : ℕ) (g : Gathered) (calls cs : List FileCall) (at : ℕ) (a : Ahead) → KeepsBlocks size (due_of size g ++ calls) →
     cs ≡ ReadFailed Log at ∷ calls → a.count ≡ 0 → KeepsBlocks size (due_of size g ++ cs) × KeepsAhead contents size (due_of size g ++ cs) a
 failed-ahead-kept contents size g calls cs at a keeps noted none =
@@ -240,12 +240,12 @@ failed-ahead-kept contents size g calls cs at a keeps noted none =
       kept-none contents size (due_of size g ++ (ReadFailed Log at ∷ calls)) a none,
     )
 
--- a fact of each of some calls and of each of others is one of each of both
+-- a fact of each call of two lists holds of each call of both
 all-append : (P : FileCall → Type 0) (more calls : List FileCall) → AllByRecursion P more → AllByRecursion P calls → AllByRecursion P (more ++ calls)
 all-append P [] calls all rest = rest
 all-append P (c ∷ more) calls all rest = (all.0, all-append P more calls all.1 rest)
 
--- a read of the log behind another
+-- reads follow reads
 pub read-behind : {old mid new : FileState} → HasRead old mid → HasRead mid new → HasRead old new
 read-behind {old} {mid} {new} first then = record {
   calls = then.calls ++ first.calls;
@@ -254,25 +254,25 @@ read-behind {old} {mid} {new} first then = record {
       ∙ ap (λ (cs : List FileCall). record old { calls = cs }) (sym (append_assoc then.calls first.calls old.calls));
 }
 
--- and one that fails, at the place of a block
+-- a failed read, at a block's place, follows reads
 pub failed-behind : {old mid new : FileState} {area : Area} (n : ℕ) → HasRead old mid → HasFailedRead mid new area (n * mid.block_size) → HasFailedRead old new area (n * old.block_size)
 failed-behind {old} {mid} {new} {area} n first then =
     subst (λ (size : ℕ). HasFailedRead old new area (n * size)) (ap (λ (s : FileState). s.block_size) first.after)
     (record { before = then.before; asked_before = read-behind first then.asked_before; after = then.after })
 
--- a device that was asked for bytes alone has the same disk
+-- reads leave the disk
 pub read-leaves : (contents : FileContents) {old new : FileState} → HasRead old new → file_state contents new ≡ file_state contents old
 read-leaves contents {old} {new} read =
     ap (file_state contents) read.after
     ∙ ap (λ (m : FileMoments). record (file_state contents old) { disk = m.disk; past = m.past })
     (over-same contents old.block_size old.gathered (read.calls ++ old.calls) old.calls (readings-leave contents old.block_size read.calls old.calls read.readings))
 
--- and so are its files
+-- and the files' disk
 pub files-leave : (contents : FileContents) {old new : FileState} → HasRead old new → files_disk contents new ≡ files_disk contents old
 files-leave contents {old} {new} read =
     ap (files_disk contents) read.after ∙ ap (λ (m : FileMoments). m.disk) (readings-leave contents old.block_size read.calls old.calls read.readings)
 
--- whole blocks from a place of a file on end within it
+-- whole blocks from a block's place on end within the file
 pub span-fits : (n size long room count at span : ℕ) → n < long / size → count ≡ min room (long / size - n) → at ≡ n * size → span ≤ count * size → at + span ≤ long
 span-fits n size long room count at span there many place most =
     let behind : count ≤ long / size - n = omega (arith, many, min-le_right room (long / size - n)) in
@@ -289,18 +289,18 @@ pub on-err : {T E P Q : Type 0} (r : Result T E) → (P → Q) → OnErr r P →
 on-err (Ok v) f p = p
 on-err (Err e) f p = f p
 
--- a device that was asked for bytes alone, seen through what it is equal to
+-- reads, up to an equal device
 pub read-as : {old mid new : FileState} → HasRead old mid → new ≡ mid → HasRead old new
 read-as read same = rw same read
 
 pub same-read : {old mid new : FileState} → mid ≡ old → HasRead mid new → HasRead old new
 same-read {new = new} same read = subst (λ (s : FileState). HasRead s new) same read
 
--- nothing was asked for
+-- no read is a list of reads
 pub no-read : (s : FileState) → HasRead s s
 no-read s = record { calls = []; readings = tt; after = refl }
 
--- reading changes the count of failures at most
+-- reads change the count of failures at most
 pub read-stays : (contents : FileContents) {old new : FileState} → HasRead old new → Stays (file_state contents old) (file_state contents new)
 read-stays contents read = record {
   shape = ap (λ (s : DeviceState). s.shape) (read-leaves contents read);
@@ -319,7 +319,7 @@ failed-stays contents {old} {new} {area} {at} read =
       past = ap (λ (s : FileState). (file_state contents s).past) read.after ∙ ap (λ (m : FileMoments). m.past) same ∙ before.past;
     }
 
--- where each read so far gave what the disk had, so did those before it
+-- if all reads so far agreed, the earlier ones did
 pub read-agreed : (contents : FileContents) {old new : FileState} → HasRead old new → HasAgreed contents new → HasAgreed contents old
 read-agreed contents {old} {new} read agrees =
     agreed-before contents old.block_size read.calls old.calls (subst (HasAgreed contents) read.after agrees)
@@ -328,13 +328,13 @@ pub failed-agreed : (contents : FileContents) {old new : FileState} {area : Area
 failed-agreed contents {old} {new} read agrees =
     read-agreed contents read.asked_before (subst (HasAgreed contents) read.after agrees).1
 
--- that a call was counted first changes nothing of the disk
+-- counting a call first leaves the disk
 counted-stays : (contents : FileContents) {old mid : FileState} {new : DeviceState} → mid ≡ counted old → Stays (file_state contents mid) new → Stays (file_state contents old) new
 counted-stays contents {old} {mid} {new} same stays =
     let since : Stays (file_state contents (counted old)) new = subst (λ (s : FileState). Stays (file_state contents s) new) same stays in
     record { shape = since.shape; disk = since.disk; past = since.past }
 
--- either way
+-- a read leaves the disk, whether it fails or not
 pub answer-stays : {T E : Type 0} (r : Result T E) (contents : FileContents) (old mid new : FileState) (area : Area) (at : ℕ) → mid ≡ counted old → OnOk r (HasRead mid new) → OnErr r (HasFailedRead mid new area at) →
     Stays (file_state contents old) (file_state contents new)
 answer-stays (Ok v) contents old mid new area at same ok err = counted-stays contents same (read-stays contents ok)

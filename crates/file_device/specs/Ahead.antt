@@ -1,4 +1,4 @@
--- Blocks of a log file that were read before they were asked for. This project's own.
+-- Log blocks that were read before they were asked for. This project's own.
 use Rattle.std.specs.Prelude.{◌≡◌, ℕ, ◌+◌, ◌*◌, ◌<◌, ◌≤◌, List, ◌∷◌, ◌++◌, length, ⊤}
 use Rattle.std.specs.List.{AllByRecursion}
 use Rattle.journal_model.specs.declared.number.Area.{Area}
@@ -9,7 +9,7 @@ use Rattle.file_device.specs.Calls.{FileCall, Measured, Read, ReadFailed, Wrote,
 use Rattle.file_device.specs.Blocks.{block_of}
 use Rattle.file_device.specs.Files.{AgreesEach, FileContents, FileState, after_calls}
 
--- the call asked for bytes alone
+-- the call only reads
 abbrev pub IsReading : FileCall → Type 0
 IsReading (Measured area length) = ⊥
 IsReading (Read area at bytes) = ⊤
@@ -20,25 +20,25 @@ IsReading (GatheredFailed area at bytes) = ⊥
 IsReading (Synced area) = ⊥
 IsReading (SyncFailed area) = ⊥
 
--- the device after calls that asked for bytes alone
+-- the device after calls that only read
 pub record HasRead (old new : FileState) : Type 0 where
   pub calls : List FileCall
   pub readings : AllByRecursion IsReading calls
   pub after : new ≡ record old { calls = calls ++ old.calls }
 
--- the device after a read that failed, the last of calls that asked for bytes alone
+-- the device after calls that only read, the last of which failed
 pub record HasFailedRead (old new : FileState) (area : Area) (at : ℕ) : Type 0 where
   pub before : FileState
   pub asked_before : HasRead old before
   pub after : new ≡ record before { calls = ReadFailed area at ∷ before.calls; faults = one_more_fault before.faults }
 
--- the blocks that are kept are there, and each is what the log reads where each read so far gave what the disk had
+-- the bytes hold all kept blocks, and each is what the log reads if every read so far agreed with the disk
 pub record KeepsAhead (contents : FileContents) (size : ℕ) (calls : List FileCall) (a : Ahead) : Type 0 where
   pub fits : a.count * size ≤ length a.bytes.items
   pub reads : (k : ℕ) → k < a.count → AgreesEach contents size calls →
       block_of size a.bytes.items k ≡ ((after_calls contents size calls).disk Log (a.first + k)).reads
 
--- nothing is kept of a log that is written; where home is, all stays
+-- a write to the log drops what is kept; a write to home does not
 abbrev pub IsForgotten : Area → Ahead → Ahead → Type 0
 IsForgotten Log old new = new ≡ record old { count = 0 }
 IsForgotten Home old new = new ≡ old

@@ -9,41 +9,41 @@ use Rattle.block_device.specs.State.{DeviceState, one_more_call, one_more_fault}
 use Rattle.file_device.specs.Calls.{FileCall, Measured, Read, ReadFailed, Wrote, WriteFailed, GatheredFailed, Synced, SyncFailed}
 use Rattle.file_device.specs.Blocks.{writes_of}
 
--- what is supposed of the files of one device
+-- what is assumed of the files of one device
 pub record FileContents : Type 0 where
   pub first : Disk  -- what they hold when the device is made: what a read gives, and what else a crash may leave
-  pub failed_write_reads : Bool  -- whether the bytes of a write that failed are read from then on
+  pub failed_write_reads : Bool  -- whether the bytes of a failed write are read from then on
 
 -- a device over files
 pub record FileState : Type 0 where
   pub block_size : ℕ
   pub log_file : File
   pub home_file : Option File
-  pub log_bytes : ℕ  -- the lengths of the files when the device was made; 0 where there is no home file
+  pub log_bytes : ℕ  -- the files' lengths when the device was made; 0 without a home file
   pub home_bytes : ℕ
-  pub gathered : List FileCall  -- the writes of blocks that it took and has not handed to their file yet, newest first
-  pub calls : List FileCall  -- those that it made on its files, newest first
+  pub gathered : List FileCall  -- writes that it took and has not made on a file yet, newest first
+  pub calls : List FileCall  -- its calls on its files, newest first
   pub has_failed : Bool  -- a write or a flush has failed
   pub faults : ℕ
-  pub calls_made : ℕ  -- of the device, those that it refused too
+  pub calls_made : ℕ  -- calls of the device, refused ones too
 
--- a value of a block, cut or filled up with zeros to the size of one
+-- a block's value, cut or filled up with zeros to `size`
 abbrev pub fitted : ℕ → List ℕ → List ℕ
 fitted size v = take size (v ++ replicate (size - length v) 0)
 
 abbrev pub fitted_cell : ℕ → Cell → Cell
 fitted_cell size c = record { reads = fitted size c.reads; others = map (fitted size) c.others }
 
--- the disk at one moment, and the disks before, newest first
+-- the disk now, and the earlier disks, newest first
 pub record FileMoments : Type 0 where
   pub disk : Disk
   pub past : List Disk
 
--- the disk is another from now on
+-- the disk changes
 abbrev pub moved : FileMoments → Disk → FileMoments
 moved m disk = record { disk = disk; past = m.disk ∷ m.past }
 
--- what a call makes of the disk: the block of a place is the number of whole blocks before it
+-- what a call makes of the disk; a block's number is its place divided by the block size
 abbrev pub after_call : FileContents → ℕ → FileMoments → FileCall → FileMoments
 after_call contents size m (Measured area length) = m
 after_call contents size m (Read area at bytes) = m
@@ -51,8 +51,7 @@ after_call contents size m (ReadFailed area at) = m
 after_call contents size m (Wrote area at bytes) = moved m (written m.disk area (at / size) bytes)
 after_call contents size m (WriteFailed area at bytes) =
     moved m (if contents.failed_write_reads then written m.disk area (at / size) bytes else handed_over m.disk area (at / size) bytes)
--- the device goes on to hold these blocks itself: they read as they were taken, and that a crash may leave them, or what they
--- replaced, is what each of them has been a write for already
+-- the device keeps these blocks: they read as they were taken. A crash may leave each of them or what it replaced, by its earlier write
 after_call contents size m (GatheredFailed area at bytes) = m
 after_call contents size m (Synced area) = moved m (flushed m.disk area)
 after_call contents size m (SyncFailed area) = m
@@ -62,7 +61,7 @@ abbrev pub after_calls : FileContents → ℕ → List FileCall → FileMoments
 after_calls contents size [] = record { disk = λ a n. fitted_cell size (contents.first a n); past = [] }
 after_calls contents size (call ∷ earlier) = after_call contents size (after_calls contents size earlier) call
 
--- a read gave what the disk reads; no other call's answer says what a file has
+-- a read gave what the disk reads; other answers say nothing of the contents
 abbrev pub Agrees : ℕ → FileMoments → FileCall → Type 0
 Agrees size m (Measured area length) = ⊤
 Agrees size m (Read area at bytes) = bytes ≡ (m.disk area (at / size)).reads
@@ -78,7 +77,7 @@ abbrev pub AgreesEach : FileContents → ℕ → List FileCall → Type 0
 AgreesEach contents size [] = ⊤
 AgreesEach contents size (call ∷ earlier) = Agrees size (after_calls contents size earlier) call × AgreesEach contents size earlier
 
--- how long the file of an area was
+-- the length of an area's file
 abbrev pub bytes_in : FileState → Area → ℕ
 bytes_in s Log = s.log_bytes
 bytes_in s Home = s.home_bytes
@@ -87,21 +86,21 @@ bytes_in s Home = s.home_bytes
 abbrev pub file_shape : FileState → Shape
 file_shape s = record { block_size = s.block_size; log_blocks = s.log_bytes / s.block_size; home_blocks = s.home_bytes / s.block_size }
 
--- all that was asked of the device: the calls that it made, and those that are still due
+-- the calls that were made, and the gathered writes that are still due
 abbrev pub asked_calls : FileState → List FileCall
 asked_calls s = s.gathered ++ s.calls
 
--- the disk that the files alone are
+-- the disk by the calls on the files alone
 abbrev pub files_disk : FileContents → FileState → Disk
 files_disk contents s = (after_calls contents s.block_size s.calls).disk
 
--- the device as contracts see it: what it gathered counts as written
+-- the device's state in contracts: gathered writes count as written
 abbrev pub file_state : FileContents → FileState → DeviceState
 file_state contents s =
     let m = after_calls contents s.block_size (asked_calls s) in
     record { shape = file_shape s; disk = m.disk; past = m.past; faults = s.faults; calls = s.calls_made }
 
--- what is gathered: writes of blocks of one area that follow one another, 64 KiB at most
+-- the gathered writes are of consecutive blocks of one area, 64 KiB at most
 pub record GathersRun (s : FileState) : Type 0 where
   pub area : Area
   pub at : ℕ
@@ -110,11 +109,11 @@ pub record GathersRun (s : FileState) : Type 0 where
   pub are : s.gathered ≡ writes_of area at s.block_size bytes count
   pub few : count * s.block_size ≤ 65536
 
--- the premise: nobody else wrote the files, and they gave what they had
+-- the premise: nobody else wrote the files, and they gave back what they had
 abbrev pub HasAgreed : FileContents → FileState → Type 0
 HasAgreed contents s = AgreesEach contents s.block_size s.calls
 
--- the bytes that a call handed over fill a block
+-- a write call hands over one block
 abbrev pub HandsBlock : ℕ → FileCall → Type 0
 HandsBlock size (Measured area length) = ⊤
 HandsBlock size (Read area at bytes) = ⊤
@@ -125,12 +124,12 @@ HandsBlock size (GatheredFailed area at bytes) = ⊤
 HandsBlock size (Synced area) = ⊤
 HandsBlock size (SyncFailed area) = ⊤
 
--- what a device over files keeps true: blocks have a byte at least, and each write was of a whole block
+-- the invariant: a block has a byte at least, and each write was of one block
 pub record KeepsBlocks (size : ℕ) (calls : List FileCall) : Type 0 where
   pub some : 0 < size
   pub whole : AllByRecursion (HandsBlock size) calls
 
--- a device that was just made: both files were measured
+-- a new device: both files were measured
 abbrev pub new_device : ℕ → File → Option File → ℕ → ℕ → FileState
 new_device size log home log_bytes home_bytes =
     record {
@@ -150,21 +149,20 @@ new_device size log home log_bytes home_bytes =
 abbrev pub counted : FileState → FileState
 counted s = record s { calls_made = one_more_call s.calls_made }
 
--- the device after one more call of it, which made this one of the system
+-- the device after one more call, which made this system call
 abbrev pub asked : FileState → FileCall → FileState
 asked s call = record (counted s) { calls = call ∷ s.calls }
 
--- the device after a write or a flush that failed, the last that it tried
+-- the device after a write or flush that failed; it tries no more
 abbrev pub failed_for_good : FileState → FileCall → FileState
 failed_for_good s call =
     record (counted s) { calls = call ∷ s.calls; has_failed = true; faults = one_more_fault s.faults }
 
--- the device has handed on what it gathered
+-- the gathered blocks were written
 abbrev pub handed_on : FileState → FileState
 handed_on s = record s { gathered = []; calls = s.gathered ++ s.calls }
 
--- it was to hand on what it gathered, in one call, and that failed: it keeps these blocks, and nothing is written or flushed
--- from then on
+-- the call that writes the gathered blocks failed: the device keeps them, and writes and flushes no more
 pub record FailsToHandOn (old new : FileState) : Type 0 where
   pub area : Area
   pub at : ℕ
@@ -172,19 +170,18 @@ pub record FailsToHandOn (old new : FileState) : Type 0 where
   pub were : old.gathered ≡ writes_of area at old.block_size bytes (length bytes / old.block_size)
   pub after : new ≡ record old { calls = GatheredFailed area at bytes ∷ old.calls; has_failed = true; faults = one_more_fault old.faults }
 
--- One more write was asked for. Of the writes that are due some were made, the oldest ones, in their order, and all others are
--- gathered: none is lost, and none is made twice.
+-- One more write was asked for. The oldest due writes were made, in order, and the others are gathered: none is lost, none is made twice.
 pub record Takes (old new : FileState) (call : FileCall) : Type 0 where
   pub made : List FileCall
   pub calls : new.calls ≡ made ++ old.calls
   pub due : new.gathered ++ made ≡ call ∷ old.gathered
   pub rest : new ≡ record (counted old) { gathered = new.gathered; calls = new.calls }
 
--- the device was to hand on what it gathered and failed; or it did that, and then failed at this call
+-- the gathered blocks could not be written; or they were, and then this call failed
 abbrev pub FailsAt : FileState → FileState → FileCall → Type 0
 FailsAt old new call = FailsToHandOn (counted old) new ⊎ (new ≡ failed_for_good (handed_on old) call)
 
--- once a write or a flush has failed, a call answers a fault, and only the counts of failures and of calls have changed
+-- after a failed write or flush, a call answers a fault, and changes only the counts of failures and calls
 abbrev pub IsRefused : {T E : Type 0} → Result T E → FileState → FileState → Type 0
 IsRefused result old new =
     old.has_failed ≡ true → IsErr result × (new ≡ record (counted old) { faults = one_more_fault old.faults })

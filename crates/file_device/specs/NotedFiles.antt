@@ -1,4 +1,4 @@
--- The files of a device, and what was asked of them.
+-- The files of a device, and the calls that were made on them.
 use Rattle.std.specs.Prelude.{List, ◌∷◌, ◌++◌, Option, Some}
 use Rattle.std.specs.declared.fs.File.{File}
 use Rattle.journal_model.specs.declared.number.Area.{Area}
@@ -6,11 +6,11 @@ use Rattle.journal_model.specs.declared.number.Area.TheVariants.{Log, Home}
 use Rattle.file_device.specs.Calls.{FileCall}
 use Rattle.file_device.specs.declared.calls.NotedFiles.{NotedFiles}
 
--- the calls so far, the newest first
+-- the calls so far, newest first
 abbrev pub calls_of : NotedFiles → List FileCall
 calls_of files = files.history.calls
 
--- the file of an area, if it has one
+-- the file of an area, if any
 abbrev pub file_of : NotedFiles → Area → Option File
 file_of files Log = Some files.log
 file_of files Home = files.home

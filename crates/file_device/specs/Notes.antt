@@ -1,4 +1,4 @@
--- The call that a note tells of.
+-- The call of a note.
 use Rattle.file_device.specs.Calls.{FileCall, Measured, Read, ReadFailed, Wrote, WriteFailed, GatheredFailed, Synced, SyncFailed}
 use Rattle.file_device.specs.declared.history.Note.{Note}
 use Rattle.file_device.specs.declared.history.Note.TheVariants as note

@@ -1,4 +1,4 @@
-//! Blocks of a log file that were read before they were asked for.
+//! Keeps blocks of a log file that were read before they were asked for.
 ghost use Rattle.std.specs.Prelude.{◌≡◌, ◌+◌, ◌*◌, ◌<◌, ◌≤◌, length, IfSome};
 ghost use Rattle.file_device.specs.Ahead.{IsForgotten};
 ghost use Rattle.file_device.specs.Blocks.{block_of};
@@ -9,25 +9,24 @@ use std::alloc::Global;
 /// How many bytes are read at once.
 pub(crate) const MOST_BYTES: usize = 65_536;
 
-/// A block is near the one that was asked for last where fewer than so many blocks lie between them.
+/// A block is near the last one that was asked for if fewer blocks than this lie between them.
 const NEAR_BLOCKS: u64 = 8;
 
-/// Blocks of the log file, one behind the other. A reader that goes over a log block by block asks the system for many at
-/// once.
+/// Consecutive blocks of the log file, so that a reader that goes on from block to block needs one system call for many.
 #[derive(Drop)]
 pub(crate) struct Ahead {
     pub(crate) bytes: Vec<u8>,
-    /// The number of the first of them, and how many they are.
+    /// The number of the first block, and how many blocks there are.
     pub(crate) first: u64,
     pub(crate) count: u64,
-    /// The block behind the one that was asked for last.
+    /// The block after the last one that was asked for.
     pub(crate) next: u64,
-    /// Whether the block that was asked for last was near the one before it.
+    /// Whether the last two blocks that were asked for were near each other.
     pub(crate) is_steady: bool,
 }
 
 impl Ahead {
-    /// No block is kept. It takes no memory.
+    /// Keeps no block, and takes no memory.
     pub(crate) fn new(alloc: Global) -> Self
         ensures { result.count ≡ 0 }
     {
@@ -40,7 +39,7 @@ impl Ahead {
         }
     }
 
-    /// The place among the blocks that are kept of this block of the log, if it is one of them.
+    /// The place of block `n` of the log among the kept blocks, if it is one.
     pub(crate) fn place(&self, n: u64) -> Option<u64>
         ensures { IfSome result (λ k. (k < self.now.count) × (self.now.first + k ≡ n)) }
     {
@@ -52,7 +51,7 @@ impl Ahead {
         }
     }
 
-    /// Lets go what is kept where the log is to be written.
+    /// Drops the kept blocks if the log is to be written.
     pub(crate) fn forget(&mut self, area: Area)
         ensures { IsForgotten area self.old self.new }
     {
@@ -61,7 +60,7 @@ impl Ahead {
         }
     }
 
-    /// Whether this block of the log is near the one that was asked for last, and not before it.
+    /// Whether block `n` of the log is near the last one that was asked for, and after it.
     pub(crate) fn is_near(&self, n: u64) -> bool {
         match n.checked_sub(self.next) {
             Some(between) => between < NEAR_BLOCKS,
@@ -70,7 +69,6 @@ impl Ahead {
     }
 }
 
-/// Copies block `k` of some bytes.
 pub(crate) fn copy_block(bytes: &[u8], size: usize, k: u64, into: &mut [u8])
     requires there { (k + 1) * size ≤ length bytes.now }
     requires block { length into.old ≡ size }

@@ -1,6 +1,5 @@
-//! The calls that a device makes on its files. Each function here makes one call of `std::fs::File` on the file of an
-//! area, and notes it with its answer just as that was. No proof sees what such a call does or gives, so these functions
-//! have to be read.
+//! Makes a device's calls on its files. Each function makes one call of `std::fs::File` on the file of an area, and notes it with its exact
+//! answer. No proof sees what such a call does, so these functions have to be read.
 ghost use Rattle.std.specs.Prelude.{◌≡◌, ◌+◌, ◌/◌, ◌<◌, ◌^◌, length, [], option_map, IsNone, IfOk, IfErr, OnOk, OnErr};
 ghost use Rattle.journal_model.specs.declared.number.Area.TheVariants.{Home};
 ghost use Rattle.file_device.specs.Calls.{Measured, Read, ReadFailed, Wrote, WriteFailed, GatheredFailed, Synced, SyncFailed};
@@ -12,7 +11,7 @@ use std::fs::File;
 use std::io;
 use std::os::unix::fs::FileExt;
 
-/// The files of the two areas, and what was asked of them.
+/// The files of both areas, and the calls that were made on them.
 #[derive(Drop)]
 pub(crate) struct NotedFiles {
     log: File,
@@ -34,7 +33,6 @@ impl NotedFiles {
         }
     }
 
-    /// The file of an area, if it has one.
     fn file(&self, area: Area) -> Option<&File>
         ensures { option_map (λ file. file.now) result ≡ file_of self.now area }
     {
@@ -44,8 +42,8 @@ impl NotedFiles {
         }
     }
 
-    /// How long the file of an area is, in bytes; 0 where there is none, which is no call. A call that fails is not noted:
-    /// no device is made then.
+    /// The length of an area's file in bytes; 0 without a file, and then no call is made. A failed call is not noted, since no device is
+    /// made then.
     pub(crate) fn measure(&mut self, area: Area) -> Result<u64, Unmeasured>
         ensures noted { IfOk result (λ length. self.new ≡ with_call self.old (Measured area length)) }
         ensures lone { IsNone self.old.home → area ≡ Home → result ≡ Ok 0 }
@@ -60,7 +58,6 @@ impl NotedFiles {
         }
     }
 
-    /// How long the file of an area is; 0 where there is none.
     fn length(&self, area: Area) -> io::Result<u64>
         ensures { IsNone self.now.home → area ≡ Home → result ≡ Ok 0 }
     {
@@ -70,7 +67,7 @@ impl NotedFiles {
         }
     }
 
-    /// Fills a buffer with what the file of an area has from byte `at` on. An area without a file has nothing to read.
+    /// Fills a buffer from byte `at` of an area's file on. An area without a file can't be read.
     pub(crate) fn read(&mut self, area: Area, at: u64, into: &mut [u8]) -> io::Result<()>
         ensures ok { OnOk result (self.new ≡ with_call self.old (Read area at into.new)) }
         ensures err { OnErr result (self.new ≡ with_call self.old (ReadFailed area at)) }
@@ -86,7 +83,7 @@ impl NotedFiles {
         answer
     }
 
-    /// Fills a buffer with whole blocks of the file of an area, from byte `at` on. It is noted as a read of each of them.
+    /// Fills a buffer with whole blocks from byte `at` of an area's file on. Notes a read of each block.
     pub(crate) fn read_blocks(
         &mut self,
         area: Area,
@@ -117,7 +114,7 @@ impl NotedFiles {
         answer
     }
 
-    /// Writes bytes into the file of an area, from byte `at` on. An area without a file takes nothing.
+    /// Writes bytes into an area's file, from byte `at` on. An area without a file can't be written.
     pub(crate) fn write(&mut self, area: Area, at: u64, bytes: &[u8]) -> io::Result<()>
         ensures ok { OnOk result (self.new ≡ with_call self.old (Wrote area at bytes.now)) }
         ensures err { OnErr result (self.new ≡ with_call self.old (WriteFailed area at bytes.now)) }
@@ -133,8 +130,7 @@ impl NotedFiles {
         answer
     }
 
-    /// Writes whole blocks into the file of an area, from byte `at` on, by one call. It is noted as a write of each of them, or as
-    /// one call that failed.
+    /// Writes whole blocks into an area's file by one call, from byte `at` on. Notes a write of each block, or one failed call.
     pub(crate) fn write_blocks(
         &mut self,
         area: Area,
@@ -164,7 +160,7 @@ impl NotedFiles {
         answer
     }
 
-    /// Makes durable what was written into the file of an area. An area without a file has nothing to sync.
+    /// Makes durable what was written into an area's file. Does nothing for an area without a file.
     pub(crate) fn sync(&mut self, area: Area) -> io::Result<()>
         ensures ok { OnOk result (self.new ≡ with_call self.old (Synced area)) }
         ensures err { OnErr result (self.new ≡ with_call self.old (SyncFailed area)) }

@@ -1,16 +1,15 @@
-//! A device over files, and what is supposed of them.
+//! A device over files, and what is assumed of them.
 //!
-//! What contracts see of it is replayed from the calls that it made on its files and what these answered, a list that
-//! stands in proofs alone (`FileState`, in `specs/Files.antt`). So the clauses on the disk speak of real files under
-//! premises that no proof here shows:
+//! Contracts see its state as replayed from its calls on the files and their answers, a list in proofs alone (`FileState`, in
+//! `specs/Files.antt`). The clauses on the disk hold of real files under premises that no proof here shows:
 //!
-//! - Each function of `calls` makes the call that it notes, on that file, and notes what it answered. One that noted
-//!   a sync without a sync, or a read with bytes of its own, would prove as well.
-//! - A file gives back what it took, and nobody else writes it while the device is there. Where a read shows that it was
-//!   otherwise, `honest` is lost, and with it the clause on the bytes that reads hand out; all other clauses stand.
+//! - Each function of `calls` makes the call that it notes, on that file, and notes its answer. One that noted a sync without a sync, or a
+//!   read with other bytes, would prove as well.
+//! - A file gives back what it took, and nobody else writes it while the device exists. If a read shows otherwise, `honest` is lost, and
+//!   with it the clause on the bytes of reads; all other clauses stand.
 //! - A sync that answers Ok has made durable all that the file took, and what it gave.
-//! - A stop leaves each block whole, as it was before a write or after it; so does a call that writes several blocks at once and
-//!   fails, or that a stop cuts: each of them by itself, and no other block changes.
+//! - A crash leaves each block whole, as before a write or after it. The same holds, block by block, of a call that writes several blocks
+//!   and fails or is cut by a crash; no other block changes.
 //! - A value of a `Contents` type stands for one pair of files.
 ghost use Rattle.std.specs.Prelude.{◌≡◌, ◌<◌, ◌*◌, ◌/◌, ◌↔◌, false, true, IsOk, OnOk, OnErr};
 ghost use Rattle.block_device.specs.State.{one_more_fault};
@@ -27,16 +26,16 @@ use std::alloc::Global;
 use std::fs::File;
 use std::marker::{Model, PhantomData};
 
-/// What is supposed of the files of one device. No code can read it: a function over any `C: Contents` is proved for
-/// whatever the files may hold, and for either course of a failed write.
+/// What is assumed of the files of one device. No code can read it: a function over any `C: Contents` is proved for any contents, and for
+/// both effects of a failed write.
 pub trait Contents: Drop {
-    /// What the files hold when the device is made, with all that a crash may leave in its place, since writes of an
-    /// earlier process may be unsynced; and whether the bytes of a write that failed are read from then on.
+    /// What the files hold when the device is made, and what a crash may leave instead, since writes of an earlier process may be unsynced;
+    /// and whether the bytes of a failed write are read from then on.
     ghost contents: { FileContents };
 }
 
-/// For a program to name where it makes a device over files. A clause that is stated at this very type says nothing of
-/// files that hold anything, so code with such clauses takes any `C: Contents`.
+/// The type that a program names when it makes a device over files. Code with clauses takes any `C: Contents` instead: a clause at this
+/// type says nothing of files that hold anything.
 #[derive(Drop)]
 pub struct UnknownContents;
 
@@ -46,31 +45,26 @@ impl Contents for UnknownContents {
     ghost contents = { record { first = λ _ _. record { reads = []; others = [] }; failed_write_reads = false } };
 }
 
-/// A device over a log file and a home file, or over a log file alone: its home area then has no block.
+/// A device over a log file and a home file, or over a log file alone; then its home area has no block.
 ///
-/// Block `n` of an area is the bytes from `n` times the block size on in its file, and an area has the whole blocks of
-/// its file: what is left behind the last of them is never touched. The lengths are read once, when the device is
-/// made. A flush makes its area's file durable (fdatasync); the home area of a log file alone
-/// has nothing to flush.
+/// Block `n` of an area starts at byte `n` times the block size of its file. An area has the whole blocks of its file; bytes after the last
+/// are never touched. Lengths are read once, when the device is made. A flush makes the area's file durable (fdatasync); without a home
+/// file, home has nothing to flush.
 ///
-/// A reader that goes over the log from block to block, and leaves out a few at most, is handed them from a buffer of 64 KiB,
-/// which one call of the system fills. A write to the log, and each flush, empties it.
+/// Reads: if a reader goes over the log from block to block, leaving out a few at most, one system call fills a buffer of 64 KiB for it. A
+/// write to the log, and each flush, empties the buffer.
 ///
-/// Writes that go over an area from block to block are gathered in a buffer of 64 KiB, and one call of the system writes them:
-/// when a write of another block comes, or a flush of either area, or when the device is let go. To the log each write is
-/// gathered, and to home each but the first of blocks that follow one another. A gathered block is read from the buffer. A
-/// failure shows in the write or the flush that writes what was gathered, and those blocks are then read from the buffer for good;
-/// a failure when the device is let go shows nowhere: flush before that. A program that is killed loses what is gathered, which
-/// no flush has promised, and none of what was written before it. Whoever else opens a file finds a gathered block there once it
-/// is written, at the latest behind a flush; so let a device go before its files are opened again, or it writes over what was
-/// done there.
+/// Writes: consecutive blocks of an area are gathered in a buffer of 64 KiB. One system call writes them when a write can't be gathered
+/// with them, either area is flushed, or the device is dropped. Each write to the log is gathered. A write to home is gathered if it
+/// follows the previous one and there is room. A gathered block is read from the buffer. The write or flush that writes the buffer shows
+/// its failure, and those blocks are then read from the buffer for good. A failure at the drop shows nowhere: flush before. A killed
+/// program loses what is gathered, which no flush has promised, and no earlier write. Another opening of a file sees gathered blocks after
+/// a flush at the latest. Drop a device before its files are opened again, or it overwrites what was done there.
 ///
-/// These two buffers are all the memory that a device takes; where there is none for them, nothing is read ahead, and each block
-/// is written by itself.
+/// The two buffers are all the memory that it takes. Without memory for them, nothing is read ahead and each block is written alone.
 ///
-/// After a write or a flush that failed each further write and flush answers a fault and makes no call, since the
-/// system may have dropped what it was handed: open the files again to see what is there. A read that fails changes
-/// nothing, and the device goes on.
+/// After a failed write or flush each further one answers a fault and makes no call, since the system may have dropped what it was handed:
+/// open the files again to see what is there. A failed read changes nothing, and the device goes on.
 ///
 /// It may go to another thread, so threads can share a journal over files.
 pub struct FileDevice<C: Contents> {
@@ -138,7 +132,7 @@ impl<C: Contents> Model for FileDevice<C> {
         × KeepsGathered d.size d.gathered };
 }
 
-/// Where block `n` of a file of so many bytes begins, for blocks of `size` bytes.
+/// Where block `n` of a file of `length` bytes begins.
 fn place_of(n: u64, size: usize, length: u64) -> u64
     requires size { 0 < size }
     requires there { n < length / size }
@@ -155,14 +149,13 @@ impl<C: Contents> FileDevice<C> {
     ghost use Rattle.file_device.specs.Calls.{Wrote, WriteFailed};
     ghost use Rattle.file_device.specs.Files.{FailsToHandOn, HasAgreed, bytes_in, file_shape, file_state, files_disk, handed_on, new_device};
 
-    /// A device with blocks of `block_size` bytes over these files. They are to be two regular files, each open for
-    /// reading, and for writing where the device is to be written. What was done to their names and lengths is not synced
-    /// here. The value of `C` is used up, so that it stands for the files of one device.
+    /// Makes a device with blocks of `block_size` bytes over these files: two regular files, each open for reading, and for writing if the
+    /// device is to be written. Their names and lengths are not synced here. The value of `C` is consumed, so that it stands for one
+    /// device's files.
     ///
     /// # Errors
     ///
-    /// The system can't tell the length of a file; both are closed then. It is asked for that of the log file, and for that
-    /// of the home file where there is one. What it answers is as it gave it: std says nothing of when such a call fails.
+    /// The system can't tell the length of the file of the area in `Unmeasured`, with the system's answer; both files are closed.
     pub fn new(
         alloc: Global,
         _contents: C,
@@ -193,13 +186,12 @@ impl<C: Contents> FileDevice<C> {
         })
     }
 
-    /// The call of the system that failed last, where one did, as the system answered it.
+    /// The last system call that failed, if any, and the system's answer.
     pub fn failure(&self) -> Option<&Failure> {
         self.failure.as_ref()
     }
 
-    /// Notes that block `n` of the log is asked for. The answer is whether its reader goes on from block to block: it is near
-    /// the one that was asked for before it, as that was.
+    /// Notes that block `n` of the log is asked for. Returns whether the last two steps were both to a near block.
     fn note_asked(&mut self, n: u64) -> bool
         ensures { self.new ≡ self.old }
     {
@@ -210,7 +202,7 @@ impl<C: Contents> FileDevice<C> {
         goes_on
     }
 
-    /// Hands out block `n` of the log, where it was read before it was asked for.
+    /// Hands out block `n` of the log, if it was read ahead.
     fn hand_out(&mut self, n: u64, into: &mut [u8]) -> bool
         requires block { length into.old ≡ self.old.block_size }
         ensures same { self.new ≡ self.old }
@@ -223,8 +215,7 @@ impl<C: Contents> FileDevice<C> {
         true
     }
 
-    /// Reads as many blocks of the log at once as there is room for, from block `n` on. None is read where blocks of the log are
-    /// gathered, or where there is no memory for them.
+    /// Reads from block `n` of the log on as many blocks as the buffer holds. Reads none if log blocks are gathered, or without memory.
     fn read_ahead(&mut self, n: u64)
         requires there { n < (file_shape self.old).log_blocks }
         ensures { HasRead self.old self.new }
@@ -249,7 +240,7 @@ impl<C: Contents> FileDevice<C> {
         ahead.first = n;
     }
 
-    /// Reads a block of the log that is not gathered. Where its reader goes on from block to block, further ones are read with it.
+    /// Reads a log block that is not gathered, and reads ahead if its reader goes on from block to block.
     fn read_log(&mut self, n: u64, into: &mut [u8]) -> Result<(), DeviceFault>
         requires block { length into.old ≡ self.old.block_size }
         requires there { n < (file_shape self.old).log_blocks }
@@ -287,7 +278,7 @@ impl<C: Contents> FileDevice<C> {
         }
     }
 
-    /// Hands out block `n` of an area, where it is gathered.
+    /// Hands out block `n` of an area, if it is gathered.
     fn hand_back(&self, area: Area, n: u64, into: &mut [u8]) -> bool
         requires block { length into.old ≡ self.now.block_size }
         ensures bytes { IsTrue result → into.new ≡ ((file_state C.contents self.now).disk area n).reads }
@@ -301,7 +292,7 @@ impl<C: Contents> FileDevice<C> {
         true
     }
 
-    /// Gathers block `n` of an area, where it comes right behind what is gathered and there is room for it.
+    /// Gathers block `n` of an area, if it follows the gathered blocks and there is room.
     fn gather(&mut self, area: Area, n: u64, bytes: &[u8]) -> bool
         requires block { length bytes.now ≡ self.old.block_size }
         requires there { n < blocks_in (file_state C.contents self.old).shape area }
@@ -312,7 +303,7 @@ impl<C: Contents> FileDevice<C> {
         self.gathered.push(area, n, bytes)
     }
 
-    /// Gathers block `n` of the log as the first one. None of home is: a reader of a log may write home in any order.
+    /// Gathers block `n` of the log as the first one. Home blocks are not: they may be written in any order.
     fn gather_first(&mut self, area: Area, n: u64, bytes: &[u8]) -> bool
         requires none { self.old.gathered ≡ [] }
         requires block { length bytes.now ≡ self.old.block_size }
@@ -350,7 +341,7 @@ impl<C: Contents> FileDevice<C> {
         }
     }
 
-    /// Hands on what is gathered, in one call.
+    /// Writes the gathered blocks, in one call.
     fn hand_on(&mut self) -> Result<(), DeviceFault>
         ensures ok { OnOk result (self.new ≡ handed_on self.old) }
         ensures err { OnErr result (FailsToHandOn self.old self.new) }
@@ -377,7 +368,6 @@ impl<C: Contents> FileDevice<C> {
         }
     }
 
-    /// How long the file of an area was.
     fn length(&self, area: Area) -> u64
         ensures { result ≡ bytes_in self.now area }
     {
@@ -387,14 +377,13 @@ impl<C: Contents> FileDevice<C> {
         }
     }
 
-    /// Counts a call.
     fn count_call(&mut self)
         ensures { self.new ≡ counted self.old }
     {
         self.calls_made = self.calls_made.saturating_add(1);
     }
 
-    /// Counts a call, and answers a fault where a write or a flush has failed.
+    /// Counts a call, and answers a fault if a write or a flush has failed.
     fn check_usable(&mut self) -> Result<(), DeviceFault>
         ensures some { 0 < self.old.block_size }
         ensures ok { IsOk result ↔ (self.old.has_failed ≡ false) }
@@ -408,7 +397,7 @@ impl<C: Contents> FileDevice<C> {
         Ok(())
     }
 
-    /// Counts a failure of a write or a flush, the last that is tried, and keeps what the system answered.
+    /// Counts a failed write or flush, after which none is tried, and keeps the system's answer.
     fn fail(&mut self, failure: Failure) -> DeviceFault
         ensures { self.new ≡ record self.old { has_failed = true; faults = one_more_fault self.old.faults } }
     {
@@ -417,7 +406,7 @@ impl<C: Contents> FileDevice<C> {
         self.fault()
     }
 
-    /// Counts a failure of a read, and keeps what the system answered.
+    /// Counts a failed read, and keeps the system's answer.
     fn fail_to_read(&mut self, failure: Failure) -> DeviceFault
         ensures { self.new ≡ record self.old { faults = one_more_fault self.old.faults } }
     {
@@ -425,7 +414,6 @@ impl<C: Contents> FileDevice<C> {
         self.fault()
     }
 
-    /// Counts a failure.
     fn fault(&mut self) -> DeviceFault
         ensures { self.new ≡ record self.old { faults = one_more_fault self.old.faults } }
     {
@@ -455,7 +443,7 @@ impl<C: Contents> Device for FileDevice<C> {
         ensures calls { CountsCall (file_state C.contents self.old) (file_state C.contents self.new) }
         ensures honest { HasAgreed C.contents self.new → HasAgreed C.contents self.old }
 
-        // The files were asked for bytes, or for none. A read that fails leaves the device as usable.
+        // The files were only read. The device stays usable after a failed read.
         ensures gave { OnOk result (HasRead (counted self.old) self.new) }
         ensures failed { OnErr result (HasFailedRead (counted self.old) self.new area (n * self.old.block_size)) }
     {
@@ -478,8 +466,8 @@ impl<C: Contents> Device for FileDevice<C> {
         ensures calls { CountsCall (file_state C.contents self.old) (file_state C.contents self.new) }
         ensures honest { HasAgreed C.contents self.new → HasAgreed C.contents self.old }
 
-        // The file took the bytes at the block's place, behind all that was gathered, or they are gathered with it; or the file was
-        // handed what was gathered, or else the bytes, and failed, and nothing is written or flushed from then on.
+        // The file took the bytes after all that was gathered, or they are gathered with it. Or the write of what was gathered, or of the
+        // bytes, failed; then nothing is written or flushed any more.
         ensures took { OnOk result (Takes self.old self.new (Wrote area (n * self.old.block_size) bytes.now)) }
         ensures failed { self.old.has_failed ≡ false →
             OnErr result (FailsAt self.old self.new (WriteFailed area (n * self.old.block_size) bytes.now)) }
@@ -503,8 +491,8 @@ impl<C: Contents> Device for FileDevice<C> {
         ensures calls { CountsCall (file_state C.contents self.old) (file_state C.contents self.new) }
         ensures honest { HasAgreed C.contents self.new → HasAgreed C.contents self.old }
 
-        // What was gathered is written, and then the file synced; or one of these calls failed, and nothing is written or flushed
-        // from then on.
+        // What was gathered is written, and then the file synced. Or one of these calls failed; then nothing is written or flushed any
+        // more.
         ensures synced { OnOk result (self.new ≡ asked (handed_on self.old) (Synced area)) }
         ensures failed { self.old.has_failed ≡ false → OnErr result (FailsAt self.old self.new (SyncFailed area)) }
         ensures refused { IsRefused result self.old self.new }
@@ -526,7 +514,7 @@ impl<C: Contents> Device for FileDevice<C> {
         ensures size { result ≡ (file_state C.contents self.now).shape.block_size }
         ensures whole { HoldsWholeBlocks (file_state C.contents self.now) }
 
-        // What is gathered is never more than a few blocks that follow one another.
+        // What is gathered is at most a few consecutive blocks.
         ensures gathered { GathersRun self.now }
     {
         self.size

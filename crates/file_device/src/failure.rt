@@ -1,31 +1,30 @@
-//! Which call of the system failed, and what the system answered.
+//! Which system call failed, and what the system answered.
 use journal_model::Area;
 use std::{fmt, io};
 
-/// A call on a file of a device that failed.
+/// A failed call on a file of a device.
 #[derive(Drop)]
 pub struct Failure {
     /// The area whose file it was.
     pub area: Area,
-    /// What was asked of the file.
+    /// The call.
     pub call: FailedCall,
-    /// What the system answered.
+    /// The system's answer.
     pub error: io::Error,
 }
 
-/// What was asked of a file.
+/// A call on a file.
 #[derive(Clone, Copy)]
 pub enum FailedCall {
-    /// Bytes from this one on.
+    /// A read, from this byte on.
     Read(u64),
-    /// To take bytes from this one on.
+    /// A write, from this byte on.
     Write(u64),
-    /// To make durable what it took.
+    /// A sync.
     Sync,
 }
 
 impl Failure {
-    /// This call on the file of an area.
     pub(crate) fn new(area: Area, call: FailedCall, error: io::Error) -> Failure {
         Failure { area, call, error }
     }

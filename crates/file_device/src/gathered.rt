@@ -1,4 +1,4 @@
-//! Blocks that a device took to be written, and has not handed to their file yet.
+//! Gathers consecutive blocks that are to be written, so that one system call writes them.
 ghost use Rattle.std.specs.Prelude.{◌≡◌, ◌+◌, ◌<◌, ◌≤◌, [], length, false, true, IfSome, IsNone, IsTrue};
 ghost use Rattle.journal_model.specs.Disk.{same_area};
 ghost use Rattle.file_device.specs.Gathered.{HoldsSame, IsAmong, IsApart, IsFreeOf, IsPushed};
@@ -9,20 +9,18 @@ use std::alloc::Global;
 /// How many bytes are gathered at most.
 const MOST_GATHERED: usize = 65_536;
 
-/// Blocks of one area, one behind the other, that one call of the system is to write.
+/// Consecutive blocks of one area, which one system call is to write.
 #[derive(Drop)]
 pub(crate) struct Gathered {
     /// The bytes of these blocks, and no others.
     pub(crate) bytes: Vec<u8>,
-    /// The area whose blocks they are, and the number of the first of them. Where there are none, the block at which they would
-    /// begin.
+    /// The area of the blocks, and the number of the first; if there are none, where they would begin.
     pub(crate) area: Area,
     pub(crate) first: u64,
-    /// How many they are.
+    /// How many blocks there are.
     pub(crate) count: u64,
 }
 
-/// Whether two areas are one.
 fn are_one(one: Area, other: Area) -> bool
     ensures { result ≡ same_area one other }
 {
@@ -39,7 +37,7 @@ fn are_one(one: Area, other: Area) -> bool
 }
 
 impl Gathered {
-    /// No block is gathered. It takes no memory.
+    /// Gathers no block, and takes no memory.
     pub(crate) fn new(alloc: Global) -> Self
         ensures none { result.count ≡ 0 }
         ensures bytes { result.bytes.items ≡ [] }
@@ -52,7 +50,7 @@ impl Gathered {
         }
     }
 
-    /// None is gathered, and from block `n` of an area on further ones may be. The memory for them is kept.
+    /// Drops all blocks, and lets block `n` of an area be the next. Keeps the memory.
     pub(crate) fn begin_at(&mut self, area: Area, n: u64)
         ensures bytes { self.new.bytes.items ≡ [] }
         ensures rest { self.new ≡ record self.old { bytes = self.new.bytes; area = area; first = n; count = 0 } }
@@ -63,7 +61,7 @@ impl Gathered {
         self.count = 0;
     }
 
-    /// The place among the gathered blocks of block `n` of an area, if it is one of them.
+    /// The place of block `n` of an area among the gathered blocks, if it is one.
     pub(crate) fn place(&self, area: Area, n: u64) -> Option<u64>
         ensures found { IfSome result (λ k. IsAmong self.now area n k) }
         ensures apart { IsNone result → IsApart self.now area n }
@@ -75,14 +73,13 @@ impl Gathered {
         if k < self.count { Some(k) } else { None }
     }
 
-    /// Whether none of the gathered blocks is one of this area.
+    /// Whether no block of this area is gathered.
     pub(crate) fn is_free_of(&self, area: Area) -> bool
         ensures { IsTrue result → IsFreeOf self.now area }
     {
         self.count == 0 || !are_one(area, self.area)
     }
 
-    /// Whether block `n` of an area comes right behind these.
     fn is_next(&self, area: Area, n: u64) -> bool
         ensures { IsTrue result → (same_area area self.now.area ≡ true) × (n ≡ self.now.first + self.now.count) }
     {
@@ -95,8 +92,7 @@ impl Gathered {
         }
     }
 
-    /// Takes block `n` of an area, where it comes right behind the others and there is room and memory for it. The answer is whether
-    /// it does.
+    /// Adds block `n` of an area, if it follows the others and there is room and memory. Returns whether it did.
     pub(crate) fn push(&mut self, area: Area, n: u64, bytes: &[u8]) -> bool
         requires some { 0 < length bytes.now }
         ensures taken { IsTrue result → IsPushed self.old self.new area n bytes.now }

@@ -1,4 +1,4 @@
-//! The calls that a device made on its files, as proofs know them.
+//! The calls that a device made on its files, for proofs.
 ghost use Rattle.std.specs.Prelude.{◌≡◌, List, [], ◌∷◌};
 ghost use Rattle.std.specs.Borrow.{ftrue};
 ghost use Rattle.file_device.specs.Calls.{FileCall};
@@ -6,8 +6,7 @@ ghost use Rattle.file_device.specs.Calls.{FileCall};
 use journal_model::Area;
 use std::marker::Model;
 
-/// The calls that a device over files made, the newest first. It stands in proofs alone: it has no bytes, and its
-/// functions do nothing.
+/// A device's calls on its files, newest first. It exists in proofs alone: it has no bytes, and its functions do nothing.
 #[derive(Drop)]
 pub(crate) struct History {
     pub ghost calls: { List FileCall },
@@ -20,25 +19,24 @@ impl Model for History {
 // It owns nothing, so it may go to another thread.
 unsafe impl Send for History {}
 
-/// A call on the file of an area, with its answer. Lengths and places are counted in bytes, places from the beginning of
-/// the file.
+/// A call on the file of an area, with its answer. Lengths and places are in bytes, places from the beginning of the file.
 #[derive(Clone, Copy, Drop)]
 pub(crate) enum Note<'a> {
-    /// The file is so long; 0 for an area without a file.
+    /// The length of the file; 0 for an area without a file.
     Measured(Area, u64),
-    /// From this place on these bytes came.
+    /// These bytes came from this place on.
     Read(Area, u64, &'a [u8]),
-    /// Bytes were asked for from this place on, and the call failed.
+    /// A read from this place on failed.
     ReadFailed(Area, u64),
-    /// These bytes were taken, from this place on.
+    /// These bytes were taken at this place.
     Wrote(Area, u64, &'a [u8]),
     /// These bytes were handed over for this place, and the call failed.
     WriteFailed(Area, u64, &'a [u8]),
-    /// These bytes of blocks that the device had taken were handed over at once for this place, and the call failed.
+    /// These bytes of gathered blocks were handed over for this place in one call, and it failed.
     GatheredFailed(Area, u64, &'a [u8]),
     /// The file was synced.
     Synced(Area),
-    /// The file was to be synced, and the call failed.
+    /// A sync of the file failed.
     SyncFailed(Area),
 }
 
@@ -52,7 +50,7 @@ impl History {
         History {}
     }
 
-    /// The same with one more call.
+    /// The calls, with one more.
     pub(crate) fn then(&self, _note: &Note<'_>) -> History
         ensures { result.calls ≡ call_of _note.now ∷ self.now.calls }
     {

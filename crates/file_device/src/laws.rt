@@ -1,4 +1,4 @@
-//! The premise of a device over files can be met and kept.
+//! Laws: the premise of a device over files can be met, and gathered blocks may be lost in a crash.
 ghost use Rattle.std.specs.Prelude.{◌≡◌, ◌⊎◌, ℕ, ◌<◌, ◌*◌, List, Option};
 ghost use Rattle.std.specs.declared.fs.File.{File};
 ghost use Rattle.journal_model.specs.declared.number.Area.{Area};
@@ -6,9 +6,8 @@ ghost use Rattle.journal_model.specs.Disk.{Image, IsOneOf, Leaves, held};
 ghost use Rattle.file_device.specs.Calls.{Read, ReadFailed, Wrote, WriteFailed, GatheredFailed, Synced, SyncFailed};
 ghost use Rattle.file_device.specs.Files.{FileContents, FileState, new_device, asked, file_state, files_disk, handed_on, GathersRun, HasAgreed};
 
-/// The premise of a device over files can be met and kept, whatever the files hold: it holds of a new device; a read
-/// that gives what the file has keeps it; and so does every other call, whatever its answer, and a call that writes what was
-/// gathered.
+/// The premise of a device over files can be met and kept, whatever the files hold. A new device satisfies it. A read that gives what the
+/// file has keeps it, and so does every other call, whatever its answer, also one that writes gathered blocks.
 pub fn answers_that_agree_keep_the_premise()
     ensures new { (contents : FileContents) (size : ℕ) (log : File) (home : Option File) (log_bytes home_bytes : ℕ) →
         HasAgreed contents (new_device size log home log_bytes home_bytes) }
@@ -30,9 +29,8 @@ pub fn answers_that_agree_keep_the_premise()
         HasAgreed contents (asked s (SyncFailed area)) }
 {}
 
-/// What is gathered may be lost at a stop, or written, each block by itself, and so where the call that writes it fails or is cut:
-/// whatever holds of each block one of the values that its file may have been left with, or what the device reads, is an image
-/// that the device's disk may leave.
+/// A crash may lose or write gathered blocks, each by itself, and so may a failed or cut call that writes them. An image is a crash image
+/// of the device's disk if each of its blocks is a value that the files may be left with, or what the device reads.
 pub fn what_is_gathered_may_be_lost()
     ensures { (contents : FileContents) (s : FileState) (image : Image) → GathersRun s →
         ((a : Area) (n : ℕ) → IsOneOf (held (files_disk contents s a n)) (image a n) ⊎ (image a n ≡ ((file_state contents s).disk a n).reads)) →

@@ -1,8 +1,8 @@
-//! A device over files: a log file and a home file, or a log file alone.
+//! A device over a log file and a home file, or over a log file alone.
 //!
-//! What contracts see of it is the `DeviceState` of `block_device`, replayed from the calls that it made on its files and
-//! what these answered. Not proved, and not provable here: that a real disk writes each block whole or not at all, that
-//! its flush is honest, and the other premises that `device` names.
+//! Contracts see it as a `DeviceState` of `block_device`, replayed from its calls on the files and their answers. Not proved, and not
+//! provable here, are the premises that `device` names: for instance that a real disk writes each block whole or not at all, and that its
+//! flush is honest.
 #![tactic(auto)]
 
 mod ahead;

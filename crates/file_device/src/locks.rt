@@ -1,53 +1,49 @@
-//! Locks on files, by which programs keep off a log and a home area that another one has.
+//! Locks files, so that programs keep off a log and a home area that another one has open.
 //!
-//! A lock is advisory: it keeps off whoever asks for it, and nobody else. It belongs to one opening of a file, so a second opening
-//! of the same file in one program is kept off too; and it lasts until the `File` that it was taken by, and each clone of that, is
-//! let go, or the program ends, in whichever way. So lock both files of a log before a device is made of them, and before anything is
-//! read: the device has the locks then, until it is dropped, and what it gathered is written by that time. That a lock does this is
-//! the system's promise (`flock`), and no clause can say it.
+//! A lock is advisory: it stops only those who ask for it. It belongs to one opening of a file, so it also stops a second opening in the
+//! same program. It lasts until the `File` that took it, and each clone of that, is closed, or the program ends in any way. So lock both
+//! files of a log before anything is read and before a device is made of them. The device then has the locks until it is dropped, after it
+//! wrote what it gathered. All this is the system's promise (`flock`); no clause can say it.
 use std::error::Error;
 use std::fs::{File, TryLockError};
 use std::io::ErrorKind;
 use std::{fmt, io};
 
-/// Why a file is not locked. Its opening has no lock then.
+/// Why a file is not locked. This opening then has no lock.
 #[derive(Debug, Drop)]
 pub enum Unlocked {
-    /// Another opening of the file has a lock, and one of the two locks is to be the only one.
+    /// Another opening has a lock that excludes this one.
     Held,
-    /// The system can't lock the file: the file system that it is of has no locks, or there is no room for a further one.
+    /// The system can't lock the file: its file system has no locks, or there is no room for one more.
     Failed(io::Error),
 }
 
-/// That the lock of a file that is to be written was taken, which `lock` alone says. The lock is the file's opening's: it lasts as long as
-/// that, whatever becomes of this.
+/// Shows that `lock` took the lock of a file to be written. The lock lasts as long as the file's opening, whatever becomes of this value.
 #[derive(Debug, Drop)]
 pub struct WriteLock(());
 
-/// That the lock of a file that is only read was taken, which `lock_shared` alone says. It lasts as the other one does.
+/// Shows that `lock_shared` took the lock of a file to be read. The lock lasts as long as the file's opening.
 #[derive(Debug, Drop)]
 pub struct ReadLock(());
 
-/// Takes the lock of a file that is to be written: from then on no other opening of the file gets either lock. It does not wait. `Ok`:
-/// the file's opening has the lock, and no other one has any.
+/// Takes the lock of a file that is to be written. No other opening has a lock, or gets one from then on. It does not wait.
 ///
 /// # Errors
 ///
-/// `Held` where another opening has one of the two locks, `Failed` where the system answers anything else. Nothing is read or
-/// written, and no other opening has lost its lock.
+/// `Held`: another opening has a lock. `Failed`: any other answer of the system. Nothing is read or written, and no other opening loses its
+/// lock.
 pub fn lock(file: &File) -> Result<WriteLock, Unlocked> {
     file.try_lock()?;
     Ok(WriteLock(()))
 }
 
-/// Takes the lock of a file that is only read: from then on no other opening of the file gets the lock of one that is to be written.
-/// Any number of readers may have theirs. It does not wait. `Ok`: the file's opening has the lock, and no other one has the lock to
-/// write.
+/// Takes the lock of a file that is only read. No other opening has the lock to write, or gets it from then on; others may take this one.
+/// It does not wait.
 ///
 /// # Errors
 ///
-/// `Held` where another opening has the lock to write, `Failed` where the system answers anything else. Nothing is read or written,
-/// and no other opening has lost its lock.
+/// `Held`: another opening has the lock to write. `Failed`: any other answer of the system. Nothing is read or written, and no other
+/// opening loses its lock.
 pub fn lock_shared(file: &File) -> Result<ReadLock, Unlocked> {
     file.try_lock_shared()?;
     Ok(ReadLock(()))

@@ -3,12 +3,12 @@ use journal_model::Area;
 use std::error::Error;
 use std::{fmt, io};
 
-/// The system can't tell how long a file is.
+/// The system can't tell the length of a file.
 #[derive(Debug, Drop)]
 pub struct Unmeasured {
     /// The area whose file it is.
     pub area: Area,
-    /// What the system answered.
+    /// The system's answer.
     pub error: io::Error,
 }
 

@@ -1,4 +1,4 @@
--- The keys of a set, with one more.
+-- Lemmas: the keys of a set, after an insertion.
 use Rattle.std.proofs.Common.{Ordering, refl, sym, inl, inr, ⊎_elim}
 use Rattle.std.specs.Cmp.{nat_cmp_total}
 use Rattle.std.specs.Prelude.{◌≡◌, ◌⊎◌, ◌↔◌, ℕ, true, List, [], ◌∷◌, Contains}
@@ -11,7 +11,7 @@ use Rattle.std.specs.declared.cmp.Ordering.TheVariants.{Less, Equal, Greater}
 use Rattle.std.proofs.lemmas.Map.Lookups.{exact_unsigned}
 use Rattle.journal_model.proofs.ListElements.{contains-behind, contains-cases, contains-first}
 
--- a key stands at its place, or an equal one did
+-- the key is in its place, or an equal one is
 placed : (r : Ordering) (x k : ℕ) (xs more : List ℕ) → (r ≡ Equal → k ≡ x) → Contains more k → Contains (match_ordering r (k ∷ x ∷ xs) (x ∷ xs) (x ∷ more)) k
 placed Less x k xs more same has = contains-first k (x ∷ xs) k refl
 placed Equal x k xs more same has = contains-first x xs k (sym (same refl))
@@ -32,7 +32,7 @@ pub insert-keeps : (ks : List ℕ) (k b : ℕ) → Contains ks b → Contains (i
 insert-keeps [] k b has = contains-behind k [] b has
 insert-keeps (x ∷ xs) k b has = stays (nat_cmp k x) x k b xs (insert_key nat_cmp xs k) has (insert-keeps xs k b)
 
--- there is none but this one and the others
+-- only this key and the others are there
 only : (r : Ordering) (x k b : ℕ) (xs more : List ℕ) → Contains (match_ordering r (k ∷ x ∷ xs) (x ∷ xs) (x ∷ more)) b → (Contains more b → Contains xs b ⊎ (k ≡ b)) → Contains (x ∷ xs) b ⊎ (k ≡ b)
 only Less x k b xs more has on = ⊎_elim (λ (one : k ≡ b). inr one) (λ (rest : Contains (x ∷ xs) b). inl rest) (contains-cases k (x ∷ xs) b has)
 only Equal x k b xs more has on = inl has
@@ -47,6 +47,6 @@ pub insert-only : (ks : List ℕ) (k b : ℕ) → Contains (insert_key nat_cmp k
 insert-only [] k b has = ⊎_elim (λ (one : k ≡ b). inr one) (λ (rest : Contains [] b). inl rest) (contains-cases k [] b has)
 insert-only (x ∷ xs) k b has = only (nat_cmp k x) x k b xs (insert_key nat_cmp xs k) has (insert-only xs k b)
 
--- a look-up finds just those that are there
+-- a look-up finds exactly the keys that are there
 pub finds-key : (ks : List ℕ) (k : ℕ) → (list_any (eq_by_cmp nat_cmp k) ks ≡ true) ↔ Contains ks k
 finds-key ks k = (Contains-from_any (tells_apart exact_unsigned) k ks, list_any-from_Contains (eq_by_cmp_equiv nat_cmp_total) k ks)

@@ -1,4 +1,4 @@
--- The direct writes of operations, with one more operation.
+-- Lemmas: the direct writes of operations.
 use Rattle.std.proofs.Common.{◌∙◌, ap, inl, inr, ⊎_elim}
 use Rattle.std.specs.Prelude.{◌≡◌, ◌⊎◌, ℕ, List, [], ◌∷◌, ◌++◌, Some, Contains}
 use Rattle.std.proofs.lemmas.List.Elements.{Contains-append_left, Contains-push, Contains-push_cases}
@@ -19,7 +19,7 @@ module _ (operations : List Operation) (one : Operation) where
       (λ (last : one ≡ is.operation). inr (ap direct_in last ∙ is.writes))
       (Contains-push_cases operations one is.operation is.one)
 
-  -- a list of direct writes that takes in that of one more operation, if it is one, and no other
+  -- with one more operation, the list grows by its direct write, if any
   pub directs-more : (old new : List ℕ) → HasDirects operations old → ((b : ℕ) → Contains old b → Contains new b) → ((b : ℕ) → direct_in one ≡ Some b → Contains new b)
       → ((b : ℕ) → Contains new b → Contains old b ⊎ (direct_in one ≡ Some b)) → HasDirects (operations ++ one ∷ []) new
   directs-more old new has keeps notes no_others = record {

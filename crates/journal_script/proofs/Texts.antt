@@ -1,4 +1,4 @@
--- Operations of values of JSON, with one more.
+-- Lemmas: operations from JSON values.
 use Rattle.std.proofs.Common.{◌∙◌, ap, subst, sym}
 use Rattle.std.specs.Prelude.{◌≡◌, ℕ, ◌+◌, ◌<◌, ◌++◌, List, [], ◌∷◌, Result, Ok, Err, Some, IfOk, get_or, length, map, take}
 use Rattle.std.proofs.lemmas.List.{map-append, take_more}
@@ -11,7 +11,7 @@ use Rattle.journal_script.specs.Text.AreOperations.{OneMore}
 use Rattle.journal_script.specs.declared.script.Operation.{Operation}
 use Rattle.journal_script.specs.declared.script.Script.{Script}
 
--- the values up to here are operations, and so is the next one
+-- one more value is an operation
 pub one-more : (operations : List Operation) (values : List Value) (i : ℕ) (operation : Operation) (value : Value) → i < length values → value ≡ get_or values i value
     → AreOperations operations (map view (take i values)) → IsOperation operation (view value) → AreOperations (operations ++ operation ∷ []) (map view (take (i + 1) values))
 one-more operations values i operation value within is are one =
@@ -19,7 +19,7 @@ one-more operations values i operation value within is are one =
     (sym (ap (map view) (take_more values i value within ∙ ap (λ (x : Value). take i values ++ x ∷ []) (sym is)) ∙ map-append view (take i values) (value ∷ [])))
     (OneMore operations (map view (take i values)) operation (view value) are one)
 
--- a script that was read of a text
+-- a script from the parts of its text
 pub script-of : {E : Type 0} (text : List ℕ) (value : Data) (script : Result Script E) → read text ≡ Some value → IfOk script (λ s. HasOperations value s.operations.items)
     → IfOk script (λ s. AgreesWith value s.measures) → IfOk script (λ s. IsDefaultElse value s.measures) → IfOk script (λ s. IsScriptOf text s.operations.items s.measures)
 script-of text value (Ok s) is has agrees defaults = record { of_text = record { script = value; is = is; has = has; agrees = agrees }; defaults = defaults }

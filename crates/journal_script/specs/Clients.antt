@@ -1,4 +1,4 @@
--- What the text of a script of clients says: what each client does, in its order; and what clients that can be served do.
+-- What the text of a script of clients says: each client's operations, in order; and which clients can be served.
 use Rattle.std.specs.Prelude.{◌≡◌, ◌++◌, ◌-◌, ◌<◌, ◌≤◌, ⊤, ℕ, Bool, true, false, if◌then◌else◌, List, [], ◌∷◌, Option, Some, None, IfSome, All, Contains, codes, count_by, length, map}
 use Rattle.std.specs.List.{AllZip, flat_map}
 use Rattle.journal_model.specs.Layout.{Layout, narrow, wide}
@@ -17,7 +17,7 @@ use Rattle.journal_script.specs.declared.clients.OpenHandle.{OpenHandle}
 use Rattle.journal_script.specs.declared.clients.Reading.{Reading}
 use Rattle.journal_script.specs.declared.measures.Measures.{Measures}
 
--- the word that an operation of a client begins with
+-- the first word of a client's operation
 abbrev pub client_word : ClientOperation → List ℕ
 client_word (Start credits) = codes "start"
 client_word (Touches (Write block bytes)) = codes "write"
@@ -25,7 +25,7 @@ client_word (Touches (Revoke block)) = codes "revoke"
 client_word Stop = codes "stop"
 client_word Wait = codes "wait"
 
--- what stands behind that: its number of credits or of a block, and its bytes in hex digits
+-- the values after that word: the credits or the block number, and the bytes in hex digits
 abbrev pub AreClientArguments : ClientOperation → List Data → Type 0
 AreClientArguments (Start credits) values = values ≡ number_value credits ∷ []
 AreClientArguments (Touches (Write block bytes)) values = (hex : Data) × IsHexOf bytes.items hex × (values ≡ number_value block ∷ hex ∷ [])
@@ -33,13 +33,13 @@ AreClientArguments (Touches (Revoke block)) values = values ≡ number_value blo
 AreClientArguments Stop values = values ≡ []
 AreClientArguments Wait values = values ≡ []
 
--- a value is this operation: a list of its name, and of what stands behind that
+-- the value is this operation: a list of its word and its arguments
 pub record IsClientOperation (operation : ClientOperation) (value : Data) : Type 0 where
   pub arguments : List Data
   pub are : AreClientArguments operation arguments
   pub is : value ≡ list_value (string (client_word operation) ∷ arguments)
 
--- the operations of a handle that is open, with these credits, behind these touches
+-- the operations of an open handle with these credits and touches
 abbrev pub begun : ℕ → List ClientTouch → List ClientOperation
 begun credits touches = Start credits ∷ map Touches touches
 
@@ -47,15 +47,15 @@ abbrev pub waiting : Bool → List ClientOperation
 waiting true = Wait ∷ []
 waiting false = []
 
--- of one from its start to its stop, and the wait for it, if there is one
+-- the operations of a handle from its start to its stop, and the wait for it, if any
 abbrev pub operations_of : ClientHandle → List ClientOperation
 operations_of h = begun h.credits h.touches.items ++ Stop ∷ waiting h.waits
 
--- of all handles of a client
+-- the operations of all handles of a client
 abbrev pub client_operations : List ClientHandle → List ClientOperation
 client_operations handles = flat_map operations_of handles
 
--- a value is a client with these handles: a list of their operations
+-- the value is a client with these handles: the list of their operations
 pub record IsClient (handles : List ClientHandle) (value : Data) : Type 0 where
   pub values : List Data
   pub is : value ≡ list_value values
@@ -65,14 +65,13 @@ pub record IsClient (handles : List ClientHandle) (value : Data) : Type 0 where
 abbrev pub handles_of : ClientScript → List (List ClientHandle)
 handles_of script = map (λ c. c.items) script.clients.items
 
--- a value has these clients: its key `clients` has the list of them
+-- the value's key `clients` has the list of these clients
 pub record HasClients (value : Data) (clients : List (List ClientHandle)) : Type 0 where
   pub lists : List Data
   pub listed : get (codes "clients") value ≡ Some (list_value lists)
   pub are : AllZip IsClient clients lists
 
--- the text is one of JSON, whose value has these clients, and agrees with these measures, which are the defaults where their keys do not
--- stand in it
+-- the text is JSON, whose value has these clients and agrees with these measures; absent keys have the defaults
 pub record IsClientScriptOf (text : List ℕ) (script : ClientScript) : Type 0 where
   pub value : Data
   pub is : read text ≡ Some value
@@ -80,20 +79,20 @@ pub record IsClientScriptOf (text : List ℕ) (script : ClientScript) : Type 0 w
   pub agrees : AgreesWith value script.measures
   pub defaults : IsDefaultElse value script.measures
 
--- the block that a touch is of
+-- the block of a touch
 abbrev pub touched : ClientTouch → ℕ
 touched (Write block bytes) = block
 touched (Revoke block) = block
 
--- the list has each block that one of these touches is of
+-- the list has the block of each touch
 abbrev pub HasTouched : List ClientTouch → List ℕ → Type 0
 HasTouched touches blocks = All (λ t. Contains blocks (touched t)) touches
 
 abbrev pub HasTouchedAll : List ClientHandle → List ℕ → Type 0
 HasTouchedAll handles blocks = All (λ h. HasTouched h.touches.items blocks) handles
 
--- A journal whose transactions have so many credits, over a home area of so many blocks, can serve such a handle: it asks for no more
--- credits, and for as many as it touches different blocks, all of which are there.
+-- A journal of this capacity, over a home of so many blocks, can serve the handle. It asks for no more credits than the capacity, and for
+-- as many as it touches different blocks, all of which exist.
 pub record IsServable (capacity home_blocks : ℕ) (handle : ClientHandle) : Type 0 where
   pub few : handle.credits ≤ capacity
   pub there : All (λ t. touched t < home_blocks) handle.touches.items
@@ -101,21 +100,20 @@ pub record IsServable (capacity home_blocks : ℕ) (handle : ClientHandle) : Typ
   pub enough : length different ≤ handle.credits
   pub has : HasTouched handle.touches.items different
 
--- the layout of a log of these measures
 abbrev pub layout_of : Measures → Layout
 layout_of m = if m.wide then wide m.block_size else narrow m.block_size
 
--- a journal on a device of a script's measures can serve each of its handles
+-- a journal on a device of the script's measures can serve each of its handles
 pub record CanBeServed (script : ClientScript) : Type 0 where
   pub capacity : ℕ
   pub is : IsCapacity (layout_of script.measures) (script.measures.log_blocks - 1) capacity
   pub servable : All (All (IsServable capacity script.measures.home_blocks)) (handles_of script)
 
--- how many handles of a client are waited for
+-- how many handles a client waits for
 abbrev pub waits_of : List ClientHandle → ℕ
 waits_of handles = count_by (λ h. h.waits) handles
 
--- the operations that were read so far of a client
+-- the operations of a client that were read so far
 abbrev pub open_part : Option OpenHandle → List ClientOperation
 open_part None = []
 open_part (Some h) = begun h.credits h.touches.items
@@ -123,19 +121,19 @@ open_part (Some h) = begun h.credits h.touches.items
 abbrev pub so_far : Reading → List ClientOperation
 so_far reading = client_operations reading.handles.items ++ open_part reading.open
 
--- and each handle can be served as far as it was read
+-- each handle that was read so far can be served
 pub record AreServable (capacity home_blocks : ℕ) (reading : Reading) : Type 0 where
   pub stopped : All (IsServable capacity home_blocks) reading.handles.items
   pub few : IfSome reading.open (λ h. h.credits ≤ capacity)
   pub there : IfSome reading.open (λ h. All (λ t. touched t < home_blocks) h.touches.items)
 
--- a handle has as many credits as it touches different blocks
+-- the handle has at least as many credits as it touches different blocks
 pub record HasCredits (handle : OpenHandle) : Type 0 where
   pub different : List ℕ
   pub enough : length different ≤ handle.credits
   pub has : HasTouched handle.touches.items different
 
--- an operation is of a block that is there, if it is of one
+-- the block of the operation exists, if it has one
 abbrev pub IsOfBlock : ℕ → ClientOperation → Type 0
 IsOfBlock home_blocks (Start credits) = ⊤
 IsOfBlock home_blocks (Touches t) = touched t < home_blocks

@@ -4,7 +4,7 @@ use Rattle.std.specs.Fmt.{decimal}
 use Rattle.journal_script.specs.declared.script.Operation.{Operation}
 use Rattle.journal_script.specs.declared.script.Operation.TheVariants.{Start, Write, Revoke, Read, Extend, Restart, Stop, Request, Lock, Turn, Commit, CheckpointTurn, Check, Status, Wait, WriteDirect, SyncDirect}
 
--- the word that it begins with
+-- the first word
 abbrev pub word_of : Operation → List ℕ
 word_of (Start name credits) = codes "start"
 word_of (Write name block bytes) = codes "write"
@@ -24,7 +24,7 @@ word_of (Wait name) = codes "wait"
 word_of (WriteDirect block bytes) = codes "direct"
 word_of SyncDirect = codes "sync"
 
--- the handle that it names, if it names one
+-- the handle, if any
 abbrev pub handle_in : Operation → Option ℕ
 handle_in (Start name credits) = Some name
 handle_in (Write name block bytes) = Some name
@@ -44,7 +44,7 @@ handle_in (Wait name) = Some name
 handle_in (WriteDirect block bytes) = None
 handle_in SyncDirect = None
 
--- its number, of credits or of a block, if it has one
+-- the number of credits or of a block, if any
 abbrev pub number_in : Operation → Option ℕ
 number_in (Start name credits) = Some credits
 number_in (Write name block bytes) = Some block
@@ -64,7 +64,7 @@ number_in (Wait name) = None
 number_in (WriteDirect block bytes) = Some block
 number_in SyncDirect = None
 
--- a number behind a blank, if there is one
+-- a blank and a number, if any; and an operation's text
 abbrev pub behind_blank : Option ℕ → List ℕ
 behind_blank None = []
 behind_blank (Some n) = codes " " ++ decimal n

@@ -4,11 +4,11 @@ use Rattle.log_model.specs.Superblock.{greatest_length, least_length}
 use Rattle.log_format.specs.Size.{IsBlockSize}
 use Rattle.journal_script.specs.declared.measures.Measures.{Measures}
 
--- the most blocks of a home area whose block numbers have 64 bits, or 32
+-- the most home blocks, for block numbers of 64 bits or of 32
 abbrev pub most_home_blocks : Bool → ℕ
 most_home_blocks wide = if wide then 1099511627776 else 1048576
 
--- the measures are such as a log and a home area of a run may have
+-- the measures are within the limits of a run's log and home
 pub record AreLimited (m : Measures) : Type 0 where
   pub block_size : IsBlockSize m.block_size
   pub least : least_length ≤ m.log_blocks

@@ -6,7 +6,7 @@ use Rattle.journal_script.specs.declared.script.Operation.{Operation}
 use Rattle.journal_script.specs.declared.script.Operation.TheVariants.{Start, Write, Revoke, Read, Extend, Restart, Stop, Request, Lock, Turn, Commit, CheckpointTurn, Check, Status, Wait, WriteDirect, SyncDirect}
 use Rattle.journal_script.specs.declared.script.Script.{Script}
 
--- the block that an operation names, if it names one
+-- the block that an operation names, if any
 abbrev pub block_in : Operation → Option ℕ
 block_in (Write name block bytes) = Some block
 block_in (Revoke name block) = Some block
@@ -26,7 +26,7 @@ block_in (Status name) = None
 block_in (Wait name) = None
 block_in SyncDirect = None
 
--- the block that an operation writes directly, if it is such a write
+-- the block that an operation writes directly, if any
 abbrev pub direct_in : Operation → Option ℕ
 direct_in (WriteDirect block bytes) = Some block
 direct_in (Write name block bytes) = None
@@ -46,23 +46,23 @@ direct_in (Status name) = None
 direct_in (Wait name) = None
 direct_in SyncDirect = None
 
--- one of these operations is a direct write of the block
+-- one of the operations writes this block directly
 pub record IsDirectOf (operations : List Operation) (b : ℕ) : Type 0 where
   pub operation : Operation
   pub one : Contains operations operation
   pub writes : direct_in operation ≡ Some b
 
--- each block of home that one of these operations names is in the list
+-- the list has each home block that an operation names
 abbrev pub HasNamed : ℕ → List Operation → List ℕ → Type 0
 HasNamed home_blocks operations named =
     (operation : Operation) (b : ℕ) → Contains operations operation → block_in operation ≡ Some b → b < home_blocks → Contains named b
 
--- the list has each block of which one of these operations is a direct write, and no other
+-- the list has exactly the blocks that an operation writes directly
 pub record HasDirects (operations : List Operation) (directs : List ℕ) : Type 0 where
   pub all : (b : ℕ) → IsDirectOf operations b → Contains directs b
   pub only : (b : ℕ) → Contains directs b → IsDirectOf operations b
 
--- each block of home that the script names is there, and those are told apart that a direct write of it names
+-- the blocks have each home block that the script names, and the directs are exactly those of its direct writes
 pub record AreNamedBy (script : Script) (named : NamedBlocks) : Type 0 where
   pub blocks : HasNamed script.measures.home_blocks script.operations.items (keys named.blocks)
   pub directs : HasDirects script.operations.items (keys named.directs)

@@ -1,4 +1,4 @@
--- What the operations of scripts are called.
+-- The words of a script's operations.
 use Rattle.std.specs.Prelude.{ℕ, List, codes}
 use Rattle.journal_script.specs.declared.error.OperationName.{OperationName}
 use Rattle.journal_script.specs.declared.error.OperationName.TheVariants.{Start, Write, Revoke, Read, Extend, Restart, Stop, Request, Lock, Turn, Commit, CheckpointTurn, Check, Status, Wait, WriteDirect, SyncDirect}

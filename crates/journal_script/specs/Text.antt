@@ -1,4 +1,4 @@
--- What the text of a script says: its operations, in their order, and measures.
+-- What the text of a script says: its operations, in order, and measures.
 use Rattle.std.specs.Prelude.{◌≡◌, ◌++◌, ⊤, ℕ, false, List, [], ◌∷◌, Option, Some, Ok, IfSome, MatchOption, codes, replicate}
 use Rattle.hex.specs.Hex.{decode_of}
 use Rattle.serde_json.specs.Data.{Data, array, boolean, number, string, unsigned}
@@ -21,20 +21,20 @@ key_name Home = codes "home"
 key_name Uuid = codes "uuid"
 key_name Wide = codes "wide"
 
--- a list, and a whole number, as values of JSON
+-- a list, and a whole number, as JSON values
 abbrev pub list_value : List Data → Data
 list_value values = array (items_of values)
 
 abbrev pub number_value : ℕ → Data
 number_value n = number (unsigned n)
 
--- hex digits of these bytes, as a value
+-- the value is a text of hex digits of these bytes
 pub record IsHexOf (bytes : List ℕ) (value : Data) : Type 0 where
   pub digits : List ℕ
   pub is : value ≡ string digits
   pub decoded : decode_of digits ≡ Ok bytes
 
--- what stands behind an operation's name: its handle, its number of credits or of a block, and its bytes in hex digits
+-- the values after an operation's name: its handle, its credits or its block number, and its bytes in hex digits
 abbrev pub AreArguments : Operation → List Data → Type 0
 AreArguments (Start name credits) values = values ≡ number_value name ∷ number_value credits ∷ []
 AreArguments (Write name block bytes) values = (hex : Data) × IsHexOf bytes.items hex × (values ≡ number_value name ∷ number_value block ∷ hex ∷ [])
@@ -54,29 +54,29 @@ AreArguments (Wait name) values = values ≡ number_value name ∷ []
 AreArguments (WriteDirect block bytes) values = (hex : Data) × IsHexOf bytes.items hex × (values ≡ number_value block ∷ hex ∷ [])
 AreArguments SyncDirect values = values ≡ []
 
--- a value is this operation: a list of its name, and of what stands behind that
+-- the value is this operation: a list of its name and its arguments
 pub record IsOperation (operation : Operation) (value : Data) : Type 0 where
   pub arguments : List Data
   pub are : AreArguments operation arguments
   pub is : value ≡ list_value (string (word_of operation) ∷ arguments)
 
--- the values are these operations, one for one, in this order
+-- the values are these operations, one for one, in order
 pub data AreOperations : List Operation → List Data → Type 0 where
   NoMore : AreOperations [] []
   OneMore : (operations : List Operation) (values : List Data) (operation : Operation) (value : Data) →
       AreOperations operations values → IsOperation operation value → AreOperations (operations ++ operation ∷ []) (values ++ value ∷ [])
 
--- a value has these operations: its key `ops` has the list of them
+-- the value's key `ops` has the list of these operations
 pub record HasOperations (script : Data) (operations : List Operation) : Type 0 where
   pub values : List Data
   pub listed : get (key_name Operations) script ≡ Some (list_value values)
   pub are : AreOperations operations values
 
--- where a key stands it has this value
+-- the key has this value, if it is present
 abbrev pub IsAt : Option Data → Data → Type 0
 IsAt found value = IfSome found (λ there. there ≡ value)
 
--- the keys of a value that speak of a device say these measures, where they stand
+-- the keys that describe a device agree with these measures, if they are present
 pub record AgreesWith (script : Data) (m : Measures) : Type 0 where
   pub block : IsAt (get (key_name Block) script) (number_value m.block_size)
   pub length : IsAt (get (key_name Length) script) (number_value m.log_blocks)
@@ -84,12 +84,11 @@ pub record AgreesWith (script : Data) (m : Measures) : Type 0 where
   pub uuid : IfSome (get (key_name Uuid) script) (IsHexOf m.uuid)
   pub wide : IsAt (get (key_name Wide) script) (boolean m.wide)
 
--- where a key does not stand, this holds
+-- if the key is absent, this holds
 abbrev pub IsElse : Option Data → Type 0 → Type 0
 IsElse found default = MatchOption found default (λ there. ⊤)
 
--- the measures of a value are the defaults where their keys do not stand: 33 log blocks and 64 home blocks of 1024 bytes, a UUID of
--- bytes aa, and block numbers of 32 bits
+-- absent keys have the defaults: 33 log blocks and 64 home blocks of 1024 bytes, a UUID of bytes aa, and block numbers of 32 bits
 pub record IsDefaultElse (script : Data) (m : Measures) : Type 0 where
   pub block : IsElse (get (key_name Block) script) (m.block_size ≡ 1024)
   pub length : IsElse (get (key_name Length) script) (m.log_blocks ≡ 33)
@@ -97,14 +96,14 @@ pub record IsDefaultElse (script : Data) (m : Measures) : Type 0 where
   pub uuid : IsElse (get (key_name Uuid) script) (m.uuid ≡ replicate 16 0xaa)
   pub wide : IsElse (get (key_name Wide) script) (m.wide ≡ false)
 
--- the text is one of JSON, whose value has these operations, and agrees with these measures
+-- the text is JSON, whose value has these operations and agrees with these measures
 pub record IsTextOf (text : List ℕ) (operations : List Operation) (measures : Measures) : Type 0 where
   pub script : Data
   pub is : read text ≡ Some script
   pub has : HasOperations script operations
   pub agrees : AgreesWith script measures
 
--- so it has and does, and the measures whose keys do not stand in it are the defaults
+-- the same, and absent keys have the defaults
 pub record IsScriptOf (text : List ℕ) (operations : List Operation) (measures : Measures) : Type 0 where
   pub of_text : IsTextOf text operations measures
   pub defaults : IsDefaultElse of_text.script measures

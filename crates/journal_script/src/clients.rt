@@ -1,4 +1,4 @@
-//! Scripts of clients: what each client does, handle by handle, and whether a journal of these measures can serve it.
+//! Reads a script of clients: what each client does, handle by handle, and whether a journal of these measures can serve it.
 ghost use Rattle.std.specs.Prelude.{◌≡◌, ◌≤◌, ◌<◌, ◌-◌, ◌++◌, ℕ, [], ◌∷◌, All, Contains, IfOk, OnOk, Some, codes, length, map, min, sum_by, vec_len};
 ghost use Rattle.std.specs.BTreeSet.{keys};
 ghost use Rattle.std.specs.List.{AllZip};
@@ -25,18 +25,16 @@ use std::collections::BTreeSet;
 /// The most clients of a script.
 pub const MOST_CLIENTS: usize = 64;
 
-/// The key of the clients.
 const CLIENTS: &str = "clients";
 
-/// The keys of a script of clients.
 const KEYS: [&str; 6] = ["block", "length", "home", "uuid", "wide", CLIENTS];
 
 /// What a client's handle does with a home block.
 #[derive(Drop)]
 pub enum ClientTouch {
-    /// Writes it: these bytes, and zeros behind them.
+    /// Writes it: these bytes, then zeros.
     Write(BlockNo, Vec<u8>),
-    /// Revokes it: no copy of it so far is to come back.
+    /// Revokes it: no copy so far is to come back.
     Revoke(BlockNo),
 }
 
@@ -45,40 +43,38 @@ pub enum ClientTouch {
 pub struct ClientHandle {
     /// The credits that it asks for.
     pub credits: u64,
-    /// What it does, in order.
+    /// Its writes and revokes, in order.
     pub touches: Vec<ClientTouch>,
-    /// Whether the client then waits until it is committed.
+    /// Whether the client waits for its commit.
     pub waits: bool,
 }
 
-/// Clients, and the measures of the device that they share.
+/// Clients, and the measures of their shared device.
 #[derive(Drop)]
 pub struct ClientScript {
     /// The measures of their device.
     pub measures: Measures,
-    /// The handles of each, in order.
+    /// The handles of each client, in order.
     pub clients: Vec<Vec<ClientHandle>>,
 }
 
 /// One operation of a client.
 #[derive(Drop)]
 pub enum ClientOperation {
-    /// Starts a handle with so many credits.
+    /// Starts a handle with this many credits.
     Start(u64),
     /// Writes or revokes a block.
     Touches(ClientTouch),
     /// Stops the handle.
     Stop,
-    /// Waits until the handle that stopped is committed.
+    /// Waits for the commit of the stopped handle.
     Wait,
 }
 
-/// Why an operation of a client is none, or can't stand where it stands.
+/// Why a value is no operation of a client, or one that can't stand there.
 #[derive(Clone, Copy)]
 enum Unfit {
-    /// For this.
     Bad(ClientFault),
-    /// Memory ran out.
     Memory,
 }
 
@@ -103,7 +99,7 @@ impl From<Unread> for Unfit {
     }
 }
 
-/// What a client's handles may do: on a device of these measures, with so many credits at most.
+/// The limits for a client's handles; `capacity` is the most credits.
 #[derive(Clone, Copy)]
 struct Limits {
     block_size: usize,
@@ -111,21 +107,18 @@ struct Limits {
     capacity: u64,
 }
 
-/// A handle that has not stopped yet.
 #[derive(Drop)]
 struct OpenHandle {
-    /// The credits that it asks for.
     credits: u64,
-    /// What it does so far.
     touches: Vec<ClientTouch>,
 }
 
-/// The handles of one client as they are read.
+/// The handles of one client, as far as they are read.
 #[derive(Drop)]
 struct Reading {
-    /// Those that have stopped.
+    /// The stopped handles.
     handles: Vec<ClientHandle>,
-    /// The one that is open.
+    /// The open handle.
     open: Option<OpenHandle>,
 }
 
@@ -152,7 +145,7 @@ impl ClientScript {
         count
     }
 
-    /// How many of these they wait for.
+    /// How many handles the clients wait for.
     pub fn waits(&self) -> usize
         ensures { result ≡ min (sum_by waits_of (handles_of self.now)) usize.MAX }
     {
@@ -175,14 +168,12 @@ impl ClientScript {
     }
 }
 
-/// How many handles are waited for.
 fn waits_of(client: &[ClientHandle]) -> usize
     ensures { result ≡ waits_of client.now }
 {
     client.iter().filter(|handle| handle.waits).count()
 }
 
-/// Notes the blocks of a client.
 fn note_client(client: &[ClientHandle], blocks: &mut BTreeSet<u64>) -> Result<(), AllocError>
     ensures keeps { OnOk result ((b : ℕ) → Contains (keys blocks.old) b → Contains (keys blocks.new) b) }
     ensures notes { OnOk result (HasTouchedAll client.now (keys blocks.new)) }
@@ -193,7 +184,6 @@ fn note_client(client: &[ClientHandle], blocks: &mut BTreeSet<u64>) -> Result<()
     Ok(())
 }
 
-/// Notes the blocks of touches.
 fn note_blocks(touches: &[ClientTouch], blocks: &mut BTreeSet<u64>) -> Result<(), AllocError>
     ensures keeps { OnOk result ((b : ℕ) → Contains (keys blocks.old) b → Contains (keys blocks.new) b) }
     ensures notes { OnOk result (HasTouched touches.now (keys blocks.new)) }
@@ -204,7 +194,6 @@ fn note_blocks(touches: &[ClientTouch], blocks: &mut BTreeSet<u64>) -> Result<()
     Ok(())
 }
 
-/// Notes a block.
 fn note_block(block: BlockNo, blocks: &mut BTreeSet<u64>) -> Result<(), AllocError>
     ensures keeps { OnOk result ((b : ℕ) → Contains (keys blocks.old) b → Contains (keys blocks.new) b) }
     ensures notes { OnOk result (Contains (keys blocks.new) block) }
@@ -217,12 +206,11 @@ fn note_block(block: BlockNo, blocks: &mut BTreeSet<u64>) -> Result<(), AllocErr
 ///
 /// # Errors
 ///
-/// `BadScript` where it is no JSON object with the key `clients`, a list of 1 to 64 lists with at most 100,000 operations in all, and at
-/// will the keys of a script of `run` that speak of its device, and with no other key; where an operation has another form than
-/// `["start", n]`, `["write", b, hex]`, `["revoke", b]`, `["stop"]` or `["wait"]`; where a handle is started while another is open,
-/// blocks are touched or a handle is stopped while none is, or a `wait` does not follow a `stop`; where a client ends with an open
-/// handle; where a handle asks for more credits than a transaction of this log can have, or for fewer than it touches blocks; or where
-/// home has no such block. `Memory`.
+/// `BadScript`, for the text: no JSON object; no key `clients` with a list of 1 to 64 lists of at most 100,000 operations in all; a key
+/// that is neither that nor one of `run`'s for a device; such a key outside its limits. For an operation: not of the form `["start", n]`,
+/// `["write", b, hex]`, `["revoke", b]`, `["stop"]` or `["wait"]`; a start while a handle is open; a touch or a stop while none is; a
+/// `wait` that does not follow a `stop`; a client that ends with an open handle; more credits than a transaction of this log can have, or
+/// fewer than the handle touches blocks; a block that home lacks. `Memory`.
 pub fn read_clients(alloc: Global, text: &[u8]) -> Result<ClientScript, ScriptError>
     ensures measures { IfOk result (λ script. AreLimited script.measures) }
     ensures some { IfOk result (λ script. 0 < vec_len script.clients) }
@@ -237,7 +225,6 @@ pub fn read_clients(alloc: Global, text: &[u8]) -> Result<ClientScript, ScriptEr
     }
 }
 
-/// Fails where an object has another key than a script of clients.
 fn require_client_keys(alloc: Global, members: &Map<String, Value>) -> Result<(), ScriptError> {
     for (name, _) in members.iter() {
         if !is_client_key(name.as_str()) {
@@ -247,7 +234,6 @@ fn require_client_keys(alloc: Global, members: &Map<String, Value>) -> Result<()
     Ok(())
 }
 
-/// Whether a script of clients may have this key.
 fn is_client_key(name: &str) -> bool {
     KEYS.contains(&name)
 }
@@ -273,7 +259,7 @@ fn read_client_members(
     Ok(ClientScript { measures, clients })
 }
 
-/// What handles may do on a device of these measures.
+/// The limits for handles on a device of these measures.
 fn limits_of(measures: &Measures) -> Limits
     requires { AreLimited measures.now }
     ensures home { result.home_blocks ≡ measures.now.home_blocks }
@@ -291,7 +277,6 @@ fn limits_of(measures: &Measures) -> Limits
     }
 }
 
-/// The lists of a script's clients.
 fn lists_of(value: &Value) -> Result<&[Value], ScriptError>
     ensures some { IfOk result (λ lists. 0 < length lists.now) }
     ensures few { IfOk result (λ lists. length lists.now ≤ 64) }
@@ -306,7 +291,6 @@ fn lists_of(value: &Value) -> Result<&[Value], ScriptError>
     }
 }
 
-/// The handles of all clients.
 fn read_all(
     alloc: Global,
     lists: &[Value],
@@ -327,7 +311,7 @@ fn read_all(
     Ok(clients)
 }
 
-/// The list of a client, which has so many operations at most.
+/// The operations of a client, at most `most`.
 fn operations_in(list: &Value, most: usize) -> Result<&[Value], ScriptError>
     ensures few { IfOk result (λ operations. length operations.now ≤ most) }
     ensures is { IfOk result (λ operations. view list.now ≡ list_value (map view operations.now)) }
@@ -338,7 +322,7 @@ fn operations_in(list: &Value, most: usize) -> Result<&[Value], ScriptError>
     }
 }
 
-/// The handles of the client at this place.
+/// The handles of the client with this number.
 fn read_client(
     alloc: Global,
     operations: &[Value],
@@ -364,7 +348,6 @@ fn read_client(
     }
 }
 
-/// The fault of an operation at this place of the list of the client at that place.
 fn bad_client(client: usize, place: usize, unfit: Unfit) -> ScriptError {
     match unfit {
         Unfit::Bad(fault) => ScriptError::BadScript(BadScript::Client(BadClient {
@@ -376,7 +359,7 @@ fn bad_client(client: usize, place: usize, unfit: Unfit) -> ScriptError {
     }
 }
 
-/// Reads one operation more.
+/// Reads one more operation.
 fn read_next(
     alloc: Global,
     value: &Value,
@@ -395,7 +378,6 @@ fn read_next(
     }
 }
 
-/// A handle is open that has these credits.
 fn started(alloc: Global, reading: Reading, credits: u64, limits: Limits) -> Result<Reading, Unfit>
     requires { AreServable limits.capacity limits.home_blocks reading }
     ensures servable { IfOk result (AreServable limits.capacity limits.home_blocks) }
@@ -416,7 +398,6 @@ fn started(alloc: Global, reading: Reading, credits: u64, limits: Limits) -> Res
     })
 }
 
-/// The open handle touches a block more.
 fn touched_by(reading: Reading, touch: ClientTouch, limits: Limits) -> Result<Reading, Unfit>
     requires servable { AreServable limits.capacity limits.home_blocks reading }
     requires there { touched touch < limits.home_blocks }
@@ -434,7 +415,6 @@ fn touched_by(reading: Reading, touch: ClientTouch, limits: Limits) -> Result<Re
     })
 }
 
-/// The open handle has stopped.
 fn stopped(alloc: Global, reading: Reading, limits: Limits) -> Result<Reading, Unfit>
     requires { AreServable limits.capacity limits.home_blocks reading }
     ensures servable { IfOk result (AreServable limits.capacity limits.home_blocks) }
@@ -456,7 +436,7 @@ fn stopped(alloc: Global, reading: Reading, limits: Limits) -> Result<Reading, U
     })
 }
 
-/// Fails where a handle touches more blocks than it has credits.
+/// Fails if a handle touches more blocks than it has credits.
 fn require_credits(alloc: Global, handle: &OpenHandle) -> Result<(), Unfit>
     ensures { OnOk result (HasCredits handle.now) }
 {
@@ -469,7 +449,7 @@ fn require_credits(alloc: Global, handle: &OpenHandle) -> Result<(), Unfit>
     }
 }
 
-/// The handle that has stopped is waited for.
+/// Lets the client wait for the last handle, which is stopped.
 fn awaited(reading: Reading, limits: Limits) -> Result<Reading, Unfit>
     requires { AreServable limits.capacity limits.home_blocks reading }
     ensures servable { IfOk result (AreServable limits.capacity limits.home_blocks) }
@@ -492,7 +472,6 @@ fn awaited(reading: Reading, limits: Limits) -> Result<Reading, Unfit>
     }
 }
 
-/// An operation of a client: a list of its name and what it is about.
 fn read_operation(alloc: Global, value: &Value, limits: Limits) -> Result<ClientOperation, Unfit>
     ensures is { IfOk result (λ operation. IsClientOperation operation (view value.now)) }
     ensures there { IfOk result (IsOfBlock limits.home_blocks) }
@@ -503,7 +482,6 @@ fn read_operation(alloc: Global, value: &Value, limits: Limits) -> Result<Client
     }
 }
 
-/// The operation of a client that a list of these values is.
 fn operation_of(alloc: Global, words: &[Value], limits: Limits) -> Result<ClientOperation, Unfit>
     ensures is { IfOk result (λ operation. IsClientOperation operation (list_value (map view words.now))) }
     ensures there { IfOk result (IsOfBlock limits.home_blocks) }
@@ -516,7 +494,6 @@ fn operation_of(alloc: Global, words: &[Value], limits: Limits) -> Result<Client
     }
 }
 
-/// An operation that is a name alone.
 fn plain_operation(name: &Value) -> Result<ClientOperation, Unfit>
     ensures named { IfOk result (λ operation. as_str (view name.now) ≡ Some (client_word operation)) }
     ensures arguments { IfOk result (λ operation. AreClientArguments operation []) }
@@ -529,7 +506,7 @@ fn plain_operation(name: &Value) -> Result<ClientOperation, Unfit>
     }
 }
 
-/// An operation of a number: of credits, or of a block.
+/// An operation with a number, of credits or of a block.
 fn number_operation(name: &Value, number: &Value, limits: Limits) -> Result<ClientOperation, Unfit>
     ensures named { IfOk result (λ operation. as_str (view name.now) ≡ Some (client_word operation)) }
     ensures arguments { IfOk result (λ operation. AreClientArguments operation (view number.now ∷ [])) }
@@ -543,7 +520,6 @@ fn number_operation(name: &Value, number: &Value, limits: Limits) -> Result<Clie
     }
 }
 
-/// A revoke of the block of home that has this number.
 fn revoke_operation(number: u64, limits: Limits) -> Result<ClientOperation, Unfit>
     ensures is { IfOk result (λ operation. operation ≡ Touches (Revoke number)) }
     ensures there { IfOk result (IsOfBlock limits.home_blocks) }
@@ -555,7 +531,6 @@ fn revoke_operation(number: u64, limits: Limits) -> Result<ClientOperation, Unfi
     }
 }
 
-/// A write of a block.
 fn write_operation(
     alloc: Global,
     name: &Value,
@@ -575,7 +550,6 @@ fn write_operation(
     Ok(ClientOperation::Touches(ClientTouch::Write(block, bytes)))
 }
 
-/// A whole number from 0 to 2^64 - 1.
 fn whole_number(value: &Value) -> Result<u64, Unfit>
     ensures { IfOk result (λ number. view value.now ≡ number_value number) }
 {
@@ -585,7 +559,6 @@ fn whole_number(value: &Value) -> Result<u64, Unfit>
     }
 }
 
-/// The number of a block of home.
 fn block_of(value: &Value, limits: Limits) -> Result<BlockNo, Unfit>
     ensures is { IfOk result (λ block. view value.now ≡ number_value block) }
     ensures there { IfOk result (λ block. block < limits.home_blocks) }

@@ -1,4 +1,4 @@
-//! Why a text gives no script.
+//! Why a text is no script.
 use crate::order::Misplaced;
 use crate::script::HANDLE_NAMES;
 use std::alloc::{AllocError, AllocFailed};
@@ -7,57 +7,56 @@ use std::fmt;
 /// Why a text gives no script.
 #[derive(Drop)]
 pub enum ScriptError {
-    /// It is no script.
+    /// The text is no script.
     BadScript(BadScript),
     /// Memory ran out.
     Memory,
 }
 
-/// What makes a text no script.
+/// What is wrong with a text that is no script.
 #[derive(Drop)]
 pub enum BadScript {
     /// It begins with a byte order mark.
     ByteOrderMark,
-    /// It is no JSON from this line and this column on, both counted from 1.
+    /// It is not JSON from this line and column on, counted from 1.
     NoJson(usize, usize),
     /// It is no JSON object.
     NoObject,
-    /// It has this key, which a script has not.
+    /// It has this key, which scripts lack.
     UnknownKey(String),
-    /// It lacks this key, or what the key has is none of its values.
+    /// It lacks this key, or the key's value is none of those allowed.
     Key(Key),
-    /// What it has for the blocks of a home area whose block numbers have 64 bits is none of that.
+    /// The blocks of its home area exceed the limits for block numbers of 64 bits.
     WideHome,
-    /// What one of its keys has is not so on the device that is there.
+    /// One of its keys does not agree with the device at hand.
     Disagrees(Disagreement),
-    /// It has this operation, which is none or can't stand there.
+    /// This operation is none, or can't stand there.
     Operation(BadOperation),
-    /// It lacks its list of clients, or that is none: it has none or too many of them, one of them is no list, or their operations are too
-    /// many.
+    /// Its list of clients is missing, empty or too long, has an element that is no list, or has too many operations.
     Clients,
-    /// A client of it has an operation that is none or can't stand there, or ends too early.
+    /// An operation of a client is none or can't stand there, or a client ends too early.
     Client(BadClient),
 }
 
-/// A key that has something else than the device that is there.
+/// A key that disagrees with the device at hand.
 #[derive(Drop)]
 pub struct Disagreement {
-    /// Which key it is.
+    /// The key.
     pub key: Key,
-    /// What the device has, as a script says it.
+    /// What the device has, as a script would say it.
     pub device: String,
-    /// What the key has: how its text begins, and where that is short the whole text.
+    /// What the script says: the whole text if short, else its beginning.
     pub script: String,
 }
 
-/// An operation of a client that is none, or can't stand where it stands.
+/// An operation of a client that is none, or can't stand there.
 #[derive(Clone, Copy)]
 pub struct BadClient {
-    /// The client's number, from 1 on.
+    /// The client's number, from 1.
     pub client: usize,
-    /// The number of the operation among the client's, from 1 on.
+    /// The operation's number in the client's list, from 1.
     pub number: usize,
-    /// What is wrong with it.
+    /// What is wrong.
     pub fault: ClientFault,
 }
 
@@ -72,11 +71,11 @@ pub enum ClientFault {
     IsOpen,
     /// No handle is open.
     NotOpen,
-    /// A transaction of the log never has so many credits.
+    /// It asks for more credits than a transaction of the log can have.
     TooManyCredits,
     /// The handle touches more blocks than it has credits.
     TooFewCredits,
-    /// It follows no stop of a handle that is not waited for yet.
+    /// It does not follow the stop of a handle that is not waited for yet.
     NothingToWaitFor,
     /// The client ends with an open handle.
     StaysOpen,
@@ -99,14 +98,14 @@ pub enum Key {
     Wide,
 }
 
-/// An operation that is none, or can't stand where it stands.
+/// An operation that is none, or can't stand there.
 #[derive(Drop)]
 pub struct BadOperation {
-    /// Its number in the list, from 1 on.
+    /// Its number in the list, from 1.
     pub number: usize,
-    /// How its text begins, and where that is short the whole text.
+    /// Its whole text if short, else the beginning.
     pub text: String,
-    /// What is wrong with it.
+    /// What is wrong.
     pub fault: OperationFault,
 }
 
@@ -117,17 +116,17 @@ pub enum OperationFault {
     NoName,
     /// No operation has its name.
     UnknownName,
-    /// The operation of its name, which this is, has another form.
+    /// It lacks the form of this name's operation.
     Form(OperationName),
-    /// Its handle is no number of one.
+    /// Its handle is no number of a handle.
     Handle,
-    /// A number of credits or of a block is none.
+    /// Its credits or its block are no number.
     Number,
-    /// Its bytes are no hex digits, two for each.
+    /// Its bytes are not pairs of hex digits.
     Digits,
-    /// Its bytes are more than those of a block.
+    /// It has more bytes than a block.
     TooManyBytes,
-    /// Its handle is not in the state that it needs.
+    /// Its handle is in the wrong state.
     Misplaced(Misplaced),
 }
 
@@ -170,7 +169,6 @@ pub enum OperationName {
     SyncDirect,
 }
 
-/// The names of all operations.
 const NAMES: [OperationName; 17] = [
     OperationName::Start,
     OperationName::Write,
@@ -195,7 +193,6 @@ impl OperationName {
     ghost use Rattle.std.specs.Prelude.{◌≡◌, IfSome};
     ghost use Rattle.journal_script.specs.Names.{name_word};
 
-    /// The operation that is called so.
     pub(crate) fn called(text: &str) -> Option<OperationName>
         ensures { IfSome result (λ name. text.now ≡ name_word name) }
     {
@@ -207,7 +204,6 @@ impl OperationName {
         None
     }
 
-    /// What it is called.
     fn word(self) -> &'static str
         ensures { result.now ≡ name_word self }
     {
@@ -232,7 +228,6 @@ impl OperationName {
         }
     }
 
-    /// The form of its operation.
     fn form(self) -> &'static str {
         match self {
             OperationName::Start => r#"["start", H, n]"#,
@@ -260,7 +255,6 @@ impl Key {
     ghost use Rattle.std.specs.Prelude.{◌≡◌};
     ghost use Rattle.journal_script.specs.Text.{key_name};
 
-    /// The key of this name.
     pub(crate) fn named(name: &str) -> Option<Key> {
         match name {
             "ops" => Some(Key::Operations),
@@ -273,7 +267,6 @@ impl Key {
         }
     }
 
-    /// Its name.
     pub(crate) fn name(self) -> &'static str
         ensures { result.now ≡ key_name self }
     {
@@ -287,7 +280,6 @@ impl Key {
         }
     }
 
-    /// What its value has to be.
     fn wanted(self) -> &'static str {
         match self {
             Key::Operations => "a list of at most 100000 operations is wanted",
@@ -328,7 +320,7 @@ impl<T: Drop> From<AllocFailed<T>> for ScriptError {
     }
 }
 
-/// What makes a text no script, on one line: which key or operation, and why.
+/// One line: which key or operation is wrong, and why.
 impl fmt::Display for BadScript {
     fn fmt<W: fmt::Write>(&self, f: &mut fmt::Formatter<W>) -> fmt::Result {
         match self {
@@ -358,7 +350,6 @@ impl fmt::Display for BadScript {
     }
 }
 
-/// Writes what is wrong with a key.
 fn write_key<W: fmt::Write>(f: &mut fmt::Formatter<W>, name: &str, wrong: &str) -> fmt::Result {
     write!(f, "key {name:?}: {wrong}")
 }

@@ -1,8 +1,5 @@
-//! Scripts of journal operations, and the measures of the device that a script runs on.
-//!
-//! `reading` makes a script of the bytes of its file, and `clients` one of clients in threads; `order` tests whether operations name
-//! handles in the right state, `script` says what a script then is, and `error` why a text is none. Nothing runs here. `docs/JBENCH.md`
-//! has the forms of scripts.
+//! Scripts of journal operations, and the measures of the device that a script runs on. `docs/JBENCH.md` has the forms of scripts. Nothing
+//! runs here.
 #![tactic(auto)]
 
 mod clients;

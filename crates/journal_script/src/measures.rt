@@ -1,4 +1,4 @@
-//! The measures of a device, as a script's keys or words give them, and their limits.
+//! The measures of a device as a script or a command line gives them, and their limits.
 ghost use Rattle.std.specs.Prelude.{◌≡◌, ◌↔◌, ◌≤◌, IfOk, IfSome, IsTrue};
 ghost use Rattle.hex.specs.Hex.{decode_of};
 ghost use Rattle.log_format.specs.Size.{IsBlockSize};
@@ -8,14 +8,14 @@ use hex::FromHexError;
 use journal_model::layout::{GREATEST_LENGTH, LEAST_LENGTH};
 use std::alloc::{AllocError, Global};
 
-/// The measures of a device, and the UUID and the width of its journal.
+/// The measures of a device, and its journal's UUID and width.
 #[derive(Clone, Copy)]
 pub struct Measures {
     /// Bytes of a block: 1024, 2048 or 4096.
     pub block_size: usize,
-    /// Blocks of the log, 17 to 1,048,576.
+    /// Blocks of the log: 17 to 1,048,576.
     pub log_blocks: u32,
-    /// Blocks of the home area, 1 to 1,048,576, or where block numbers have 64 bits to 1,099,511,627,776.
+    /// Blocks of the home area: 1 to 1,048,576, or to 1,099,511,627,776 with block numbers of 64 bits.
     pub home_blocks: u64,
     /// The journal's UUID.
     pub uuid: [u8; 16],
@@ -23,16 +23,15 @@ pub struct Measures {
     pub wide: bool,
 }
 
-/// The fewest and the most blocks of a log.
+/// The fewest and the most log blocks.
 pub const LENGTHS: (u32, u32) = (LEAST_LENGTH, GREATEST_LENGTH);
 
-/// The fewest and the most blocks of a home area that is made, or copied, whole.
+/// The fewest and the most home blocks of a home area that is made or copied whole.
 pub const HOMES: (u64, u64) = (1, 1_048_576);
 
-/// The most blocks of a home area whose block numbers have 64 bits.
 const MOST_WIDE_HOME: u64 = 1_099_511_627_776;
 
-/// The measures of a script or of words that give none.
+/// The defaults.
 pub const DEFAULTS: Measures = Measures {
     block_size: 1024,
     log_blocks: 33,
@@ -41,7 +40,7 @@ pub const DEFAULTS: Measures = Measures {
     wide: false,
 };
 
-/// The fewest and the most blocks of a script's home area, whose block numbers have 64 bits or 32.
+/// The fewest and the most home blocks of a script.
 pub(crate) fn homes(wide: bool) -> (u64, u64)
     ensures { result ≡ (1, most_home_blocks wide) }
 {
@@ -49,14 +48,14 @@ pub(crate) fn homes(wide: bool) -> (u64, u64)
     (HOMES.0, most)
 }
 
-/// Whether a block may have so many bytes.
+/// Whether a block may have this many bytes.
 pub fn is_block_size(bytes: u64) -> bool
     ensures { IsTrue result ↔ IsBlockSize bytes }
 {
     bytes == 1024 || bytes == 2048 || bytes == 4096
 }
 
-/// The bytes of a block that a log's superblock tells of, where a block may have so many, else 1024.
+/// The block size that a superblock gives, if a block may have it, else 1024.
 pub fn block_size_of(told: u32) -> usize
     ensures { IsBlockSize result }
 {
@@ -67,7 +66,7 @@ pub fn block_size_of(told: u32) -> usize
     }
 }
 
-/// The number that a word gives, or `None` where it is no number within these limits, which both count.
+/// The number that a word gives, if it is within these limits, both included.
 pub fn limited(word: &str, limits: (u64, u64)) -> Option<u64>
     ensures least { IfSome result (λ number. limits.0 ≤ number) }
     ensures most { IfSome result (λ number. number ≤ limits.1) }
@@ -78,7 +77,7 @@ pub fn limited(word: &str, limits: (u64, u64)) -> Option<u64>
     }
 }
 
-/// The UUID that 32 hex digits give, or `None` where the text is another. It fails where memory runs out.
+/// The UUID of 32 hex digits; `None` for any other text. Fails if memory runs out.
 pub fn uuid_of(alloc: Global, digits: &str) -> Result<Option<[u8; 16]>, AllocError>
     ensures { IfOk result (λ found. IfSome found (λ uuid. decode_of digits.now ≡ Ok uuid)) }
 {

@@ -1,9 +1,9 @@
-//! Whether the operations of a script name handles in the right state, with every start and restart taken as accepted.
+//! Tells whether a script's operations name handles in the right state, if every start and restart is accepted.
 use crate::script::{HANDLE_NAMES, HandleName, Operation};
 use std::alloc::{AllocError, Global};
 use std::fmt;
 
-/// The state of a name of a handle.
+/// The state of a handle's name.
 #[derive(Clone, Copy)]
 pub enum State {
     /// It names nothing yet.
@@ -14,12 +14,12 @@ pub enum State {
     Stopped,
 }
 
-/// A handle that an operation names, and that is in another state than the operation needs.
+/// A handle in another state than its operation needs.
 #[derive(Clone, Copy)]
 pub struct Misplaced {
     /// The handle's name.
     pub handle: HandleName,
-    /// The state that it is in.
+    /// Its state.
     pub state: State,
 }
 
@@ -34,7 +34,7 @@ impl fmt::Display for Misplaced {
     }
 }
 
-/// The state behind an operation that names the handle, or `None` where the operation needs another state.
+/// The state after an operation that names the handle; `None` if the operation needs another state.
 fn state_behind(state: State, operation: &Operation) -> Option<State> {
     match (operation, state) {
         (Operation::Start(..), State::Unused | State::Stopped) => Some(State::Open),
@@ -50,7 +50,7 @@ fn state_behind(state: State, operation: &Operation) -> Option<State> {
     }
 }
 
-/// Notes the operation in the states of all handles. Where it needs another state nothing is noted.
+/// Notes the operation in the states; notes nothing if it needs another state.
 fn follow(states: &mut [State], operation: &Operation) -> Result<(), Misplaced> {
     let Some(handle) = operation.handle() else {
         return Ok(());
@@ -71,8 +71,7 @@ fn follow(states: &mut [State], operation: &Operation) -> Result<(), Misplaced> 
     }
 }
 
-/// Tests the operations of a whole script: the first that names a handle in the wrong state, if there is one, and its place in the
-/// list.
+/// The first operation that names a handle in the wrong state, if any, with its place in the list.
 ///
 /// # Errors
 ///

@@ -21,15 +21,13 @@ use journal_model::BlockNo;
 use serde_json::{Map, Value};
 use std::alloc::{AllocError, Global};
 
-/// The most bytes of an operation's text that are told of it.
+/// An error shows at most this many bytes of an operation's text.
 const TOLD_BYTES: usize = 100;
 
 /// Why a value is no operation.
 #[derive(Clone, Copy)]
 pub(crate) enum Unread {
-    /// It is none.
     Bad(OperationFault),
-    /// Memory ran out.
     Memory,
 }
 
@@ -37,9 +35,9 @@ pub(crate) enum Unread {
 ///
 /// # Errors
 ///
-/// `BadScript` where it is no JSON object with the key `ops`, a list of at most 100,000 operations, and at will `block`,
-/// `length`, `home`, `uuid` and `wide`, within their limits, and with no other key; where an operation has another form, or names a
-/// handle in the wrong state. `Memory`.
+/// `BadScript`: no JSON object; no key `ops` with a list of at most 100,000 operations; a key other than that and `block`, `length`,
+/// `home`, `uuid` and `wide`; one of these outside its limits; an operation of another form, or one that names a handle in the wrong state.
+/// `Memory`.
 pub fn read(alloc: Global, text: &[u8]) -> Result<Script, ScriptError>
     ensures operations { IfOk result (λ script. length script.operations.items ≤ 100_000) }
     ensures measures { IfOk result (λ script. AreLimited script.measures) }
@@ -53,12 +51,11 @@ pub fn read(alloc: Global, text: &[u8]) -> Result<Script, ScriptError>
     }
 }
 
-/// Reads a script that is to be done on a device that is there: those of its keys that speak of a device have to agree with that one,
-/// where they stand. The answer is its operations.
+/// Reads the operations of a script for a device at hand. Keys that describe a device must agree with it, if they are present.
 ///
 /// # Errors
 ///
-/// Those of `read`; `BadScript` where such a key says something else than the device.
+/// Those of `read`. `BadScript`: a key disagrees with the device.
 pub fn read_over(
     alloc: Global,
     text: &[u8],
@@ -74,7 +71,6 @@ pub fn read_over(
     }
 }
 
-/// The operations of an object with these members, which agrees with a device.
 fn read_members_over(
     alloc: Global,
     value: &Value,
@@ -90,7 +86,6 @@ fn read_members_over(
     read_ordered(alloc, list_of(value)?, device.block_size)
 }
 
-/// Fails where a script says something else of its device than this.
 fn require_device(alloc: Global, value: &Value, device: &Measures) -> Result<(), ScriptError>
     ensures { OnOk result (AgreesWith (view value.now) device.now) }
 {
@@ -101,7 +96,7 @@ fn require_device(alloc: Global, value: &Value, device: &Measures) -> Result<(),
     require_width(alloc, value, device.wide)
 }
 
-/// Fails where a key stands in a script, and not with this number.
+/// Fails if a key is present with another number.
 fn require_number(alloc: Global, value: &Value, key: Key, number: u64) -> Result<(), ScriptError>
     ensures { OnOk result (IsAt (get (key_name key) (view value.now)) (number_value number)) }
 {
@@ -118,7 +113,6 @@ fn require_number(alloc: Global, value: &Value, key: Key, number: u64) -> Result
     }
 }
 
-/// The fault of a key that has something else than the device.
 fn disagrees(
     key: Key,
     device: Result<String, AllocError>,
@@ -134,7 +128,7 @@ fn disagrees(
     }
 }
 
-/// Fails where a UUID stands in a script, and another than this.
+/// Fails if a different UUID is present.
 fn require_uuid(alloc: Global, value: &Value, uuid: &[u8; 16]) -> Result<(), ScriptError>
     ensures { OnOk result (IfSome (get (key_name Uuid) (view value.now)) (IsHexOf uuid.now)) }
 {
@@ -152,7 +146,7 @@ fn require_uuid(alloc: Global, value: &Value, uuid: &[u8; 16]) -> Result<(), Scr
     }
 }
 
-/// A UUID as a script has it: hex digits between quotes.
+/// A UUID as a script has it.
 fn quoted_digits(alloc: Global, uuid: &[u8; 16]) -> Result<String, AllocError> {
     let mut text = format!(in alloc; "\"")?;
     for byte in uuid {
@@ -162,7 +156,7 @@ fn quoted_digits(alloc: Global, uuid: &[u8; 16]) -> Result<String, AllocError> {
     Ok(text)
 }
 
-/// Fails where a width of block numbers stands in a script, and another than this.
+/// Fails if a different width is present.
 fn require_width(alloc: Global, value: &Value, wide: bool) -> Result<(), ScriptError>
     ensures { OnOk result (IsAt (get (key_name Wide) (view value.now)) (boolean wide)) }
 {
@@ -180,7 +174,6 @@ fn require_width(alloc: Global, value: &Value, wide: bool) -> Result<(), ScriptE
     }
 }
 
-/// Fails where an object has another key than a script.
 fn require_known_keys(alloc: Global, members: &Map<String, Value>) -> Result<(), ScriptError> {
     for (name, _) in members.iter() {
         if Key::named(name.as_str()).is_none() {
@@ -190,7 +183,6 @@ fn require_known_keys(alloc: Global, members: &Map<String, Value>) -> Result<(),
     Ok(())
 }
 
-/// The fault of a key that a script has not.
 pub(crate) fn unknown_key(alloc: Global, name: &str) -> ScriptError {
     match String::from_str(alloc, name) {
         Ok(name) => ScriptError::BadScript(BadScript::UnknownKey(name)),
@@ -198,7 +190,6 @@ pub(crate) fn unknown_key(alloc: Global, name: &str) -> ScriptError {
     }
 }
 
-/// The fault of a key that is not there, or whose value is none.
 fn bad_key(key: Key) -> ScriptError {
     ScriptError::BadScript(BadScript::Key(key))
 }
@@ -224,7 +215,7 @@ fn read_members(
     })
 }
 
-/// The operations of a list, which name handles in the right state.
+/// The operations of a list, with handles in the right state.
 fn read_ordered(
     alloc: Global,
     list: &[Value],
@@ -245,7 +236,7 @@ fn read_ordered(
     }
 }
 
-/// The fault of an operation at this place of its list.
+/// The error for an operation at this place of its list.
 fn bad_operation(
     alloc: Global,
     place: usize,
@@ -262,7 +253,7 @@ fn bad_operation(
     }
 }
 
-/// How the text of a value begins.
+/// The beginning of a value's text, or all of it if it is short.
 fn text_of(alloc: Global, value: Option<&Value>) -> Result<String, AllocError> {
     let Some(value) = value else {
         return Ok(String::new(alloc));
@@ -274,10 +265,9 @@ fn text_of(alloc: Global, value: Option<&Value>) -> Result<String, AllocError> {
     }
 }
 
-/// The byte order marks of UTF-8 and of both kinds of UTF-16, which editors put before a text.
+/// The byte order marks of UTF-8 and UTF-16, which editors put before a text.
 const MARKS: [&[u8]; 3] = [b"\xef\xbb\xbf", b"\xff\xfe", b"\xfe\xff"];
 
-/// The value of a JSON text.
 pub(crate) fn read_value(alloc: Global, text: &[u8]) -> Result<Value, ScriptError>
     ensures { IfOk result (λ value. read_text text.now ≡ Some (view value)) }
 {
@@ -291,7 +281,6 @@ pub(crate) fn read_value(alloc: Global, text: &[u8]) -> Result<Value, ScriptErro
     }
 }
 
-/// The measures of a script's device.
 pub(crate) fn read_measures(alloc: Global, value: &Value) -> Result<Measures, ScriptError>
     ensures limited { IfOk result (λ measures. AreLimited measures) }
     ensures agrees { IfOk result (λ measures. AgreesWith (view value.now) measures) }
@@ -316,7 +305,7 @@ pub(crate) fn read_measures(alloc: Global, value: &Value) -> Result<Measures, Sc
     })
 }
 
-/// The number of a key, or where the script has no such key the default. It is not outside these limits.
+/// The number of a key, within these limits; the default if the key is absent.
 fn read_number(
     value: &Value,
     key: Key,
@@ -339,7 +328,6 @@ fn read_number(
     }
 }
 
-/// The blocks of a script's home area, whose block numbers have 64 bits or 32.
 fn read_home(value: &Value, wide: bool) -> Result<u64, ScriptError>
     ensures least { IfOk result (λ blocks. 1 ≤ blocks) }
     ensures most { IfOk result (λ blocks. blocks ≤ most_home_blocks wide) }
@@ -353,7 +341,6 @@ fn read_home(value: &Value, wide: bool) -> Result<u64, ScriptError>
     }
 }
 
-/// The UUID of a script's journal.
 fn read_uuid(alloc: Global, value: &Value) -> Result<[u8; 16], ScriptError>
     ensures is { IfOk result (λ uuid. IfSome (get (key_name Uuid) (view value.now)) (IsHexOf uuid)) }
     ensures default { IfOk result (λ uuid. IsElse (get (key_name Uuid) (view value.now)) (uuid ≡ replicate 16 0xaa)) }
@@ -370,7 +357,6 @@ fn read_uuid(alloc: Global, value: &Value) -> Result<[u8; 16], ScriptError>
     }
 }
 
-/// Whether the block numbers of a script's log have 64 bits.
 fn read_width(value: &Value) -> Result<bool, ScriptError>
     ensures is { IfOk result (λ wide. IsAt (get (key_name Wide) (view value.now)) (boolean wide)) }
     ensures default { IfOk result (λ wide. IsElse (get (key_name Wide) (view value.now)) (wide ≡ false)) }
@@ -384,7 +370,6 @@ fn read_width(value: &Value) -> Result<bool, ScriptError>
     }
 }
 
-/// The list of operations of a script.
 fn list_of(value: &Value) -> Result<&[Value], ScriptError>
     ensures few { IfOk result (λ list. length list.now ≤ 100_000) }
     ensures listed { IfOk result (λ list. get (key_name Operations) (view value.now) ≡ Some (list_value (map view list.now))) }
@@ -398,7 +383,6 @@ fn list_of(value: &Value) -> Result<&[Value], ScriptError>
     }
 }
 
-/// The operations of a list, where a block has so many bytes.
 fn read_operations(
     alloc: Global,
     list: &[Value],
@@ -420,7 +404,6 @@ fn read_operations(
     Ok(operations)
 }
 
-/// An operation: a list of its name and what it is about.
 fn read_operation(alloc: Global, value: &Value, block_size: usize) -> Result<Operation, Unread>
     ensures { IfOk result (λ operation. IsOperation operation (view value.now)) }
 {
@@ -430,7 +413,6 @@ fn read_operation(alloc: Global, value: &Value, block_size: usize) -> Result<Ope
     }
 }
 
-/// The operation that a list of these values is.
 fn operation_of(alloc: Global, words: &[Value], block_size: usize) -> Result<Operation, Unread>
     ensures { IfOk result (λ operation. IsOperation operation (list_value (map view words.now))) }
 {
@@ -440,7 +422,6 @@ fn operation_of(alloc: Global, words: &[Value], block_size: usize) -> Result<Ope
     }
 }
 
-/// The name of an operation.
 fn name_of(value: &Value) -> Result<OperationName, Unread>
     ensures { IfOk result (λ name. view value.now ≡ string (name_word name)) }
 {
@@ -453,7 +434,7 @@ fn name_of(value: &Value) -> Result<OperationName, Unread>
     }
 }
 
-/// The operation of this name that is about these values.
+/// The operation with this name and these arguments.
 fn operation_called(
     alloc: Global,
     name: OperationName,
@@ -472,12 +453,10 @@ fn operation_called(
     }
 }
 
-/// Why an operation of this name is none that has not its form.
 fn wrong_form(name: OperationName) -> Unread {
     Unread::Bad(OperationFault::Form(name))
 }
 
-/// An operation that is a name alone.
 fn plain_operation(name: OperationName) -> Result<Operation, Unread>
     ensures named { IfOk result (λ operation. word_of operation ≡ name_word name) }
     ensures arguments { IfOk result (λ operation. AreArguments operation []) }
@@ -493,7 +472,6 @@ fn plain_operation(name: OperationName) -> Result<Operation, Unread>
     }
 }
 
-/// An operation of a handle.
 fn handle_operation(name: OperationName, handle: &Value) -> Result<Operation, Unread>
     ensures named { IfOk result (λ operation. word_of operation ≡ name_word name) }
     ensures arguments { IfOk result (λ operation. AreArguments operation (view handle.now ∷ [])) }
@@ -507,7 +485,7 @@ fn handle_operation(name: OperationName, handle: &Value) -> Result<Operation, Un
     }
 }
 
-/// An operation of two values: a direct write, or an operation of a handle and a number.
+/// An operation with two arguments: a direct write, or a handle and a number.
 fn pair_operation(
     alloc: Global,
     name: OperationName,
@@ -524,7 +502,6 @@ fn pair_operation(
     }
 }
 
-/// A direct write of a block and its bytes, where a block has so many.
 fn direct_operation(
     alloc: Global,
     block: &Value,
@@ -539,7 +516,7 @@ fn direct_operation(
     Ok(Operation::WriteDirect(block, bytes))
 }
 
-/// An operation of a handle and a number: credits, or a block.
+/// An operation with a handle and a number, of credits or of a block.
 fn number_operation(
     name: OperationName,
     handle: &Value,
@@ -575,7 +552,6 @@ fn number_operation(
     }
 }
 
-/// An operation of a handle, a block and its bytes, where a block has so many.
 fn write_operation(
     alloc: Global,
     name: OperationName,
@@ -596,7 +572,6 @@ fn write_operation(
     Ok(Operation::Write(handle, block, bytes))
 }
 
-/// A whole number from 0 to 2^64 - 1.
 fn number_of(value: &Value) -> Result<u64, Unread>
     ensures { IfOk result (λ number. view value.now ≡ number_value number) }
 {
@@ -606,7 +581,6 @@ fn number_of(value: &Value) -> Result<u64, Unread>
     }
 }
 
-/// A name of a handle.
 fn handle_of(value: &Value) -> Result<HandleName, Unread>
     ensures { IfOk result (λ name. view value.now ≡ number_value name) }
 {
@@ -619,7 +593,6 @@ fn handle_of(value: &Value) -> Result<HandleName, Unread>
     }
 }
 
-/// The hex digits of a text.
 fn digits_of(value: &Value) -> Result<&str, Unread>
     ensures { IfOk result (λ digits. view value.now ≡ string digits.now) }
 {
@@ -629,7 +602,7 @@ fn digits_of(value: &Value) -> Result<&str, Unread>
     }
 }
 
-/// The bytes of a hex text, at most so many.
+/// The bytes of a hex text, at most `most`.
 pub(crate) fn bytes_of(alloc: Global, value: &Value, most: usize) -> Result<Vec<u8>, Unread>
     ensures most { IfOk result (λ bytes. length bytes.items ≤ most) }
     ensures hex { IfOk result (λ bytes. IsHexOf bytes.items (view value.now)) }

@@ -1,4 +1,4 @@
-//! What a script is: its operations, and the line that each begins.
+//! A script's operations, and the text that begins the line of each.
 ghost use Rattle.std.specs.Prelude.{ℕ, ◌≡◌, [], ◌⊎◌, ◌<◌, ◌↔◌, Contains, IfOk, IfSome, IsSome, IsTrue, OnOk, Some};
 ghost use Rattle.std.specs.Fmt.{WritesOnOk};
 ghost use Rattle.journal_script.specs.Line.{behind_blank};
@@ -35,19 +35,19 @@ impl Model for HandleName {
 pub enum Operation {
     /// Starts a handle with this many credits.
     Start(HandleName, u64),
-    /// Writes a home block: these bytes, and zeros behind them.
+    /// Writes a home block: these bytes, then zeros.
     Write(HandleName, BlockNo, Vec<u8>),
-    /// Revokes a home block: no copy of it so far is to come back.
+    /// Revokes a home block: no copy so far is to come back.
     Revoke(HandleName, BlockNo),
     /// Reads a home block, as its handle's transaction sees it.
     Read(HandleName, BlockNo),
-    /// Gives a handle this many further credits.
+    /// Adds this many credits to a handle.
     Extend(HandleName, u64),
-    /// Stops a handle, and starts another one with this many credits in its place.
+    /// Stops a handle, and starts one with this many credits in its place.
     Restart(HandleName, u64),
     /// Stops a handle.
     Stop(HandleName),
-    /// Asks for the commit of a stopped handle's transaction.
+    /// Requests the commit of a stopped handle's transaction.
     Request(HandleName),
     /// Locks the running transaction.
     Lock,
@@ -61,24 +61,24 @@ pub enum Operation {
     Check,
     /// Asks whether a stopped handle's transaction is committed.
     Status(HandleName),
-    /// Takes a stopped handle's receipt, where its transaction is committed.
+    /// Takes a stopped handle's receipt, if its transaction is committed.
     Wait(HandleName),
-    /// Writes a home block directly, past the log: these bytes, and zeros behind them.
+    /// Writes a home block directly, past the log: these bytes, then zeros.
     WriteDirect(BlockNo, Vec<u8>),
     /// Makes direct writes durable.
     SyncDirect,
 }
 
-/// The blocks that a script names, whether its operations will run or not.
+/// The blocks that a script names, whether its operations run or not.
 #[derive(Drop)]
 pub struct NamedBlocks {
-    /// The home blocks that any of its operations names.
+    /// The home blocks that any operation names.
     pub blocks: BTreeSet<u64>,
-    /// The blocks that one of its direct writes names, those that home does not have among them.
+    /// The blocks that direct writes name, also those that home lacks.
     pub directs: BTreeSet<u64>,
 }
 
-/// A script whose operations all have a right form, and name handles in the right state.
+/// A script. Its operations have the right forms, and name handles in the right state.
 #[derive(Drop)]
 pub struct Script {
     /// The measures of its device.
@@ -88,7 +88,7 @@ pub struct Script {
 }
 
 impl HandleName {
-    /// The name with this number, if there is one.
+    /// The name with this number, if it is below `HANDLE_NAMES`.
     pub fn new(number: u64) -> Option<HandleName>
         ensures name { IfSome result (λ name. name ≡ number) }
         ensures found { IsSome result ↔ (number < 10_000) }
@@ -112,7 +112,7 @@ impl Operation {
     ghost use Rattle.journal_script.specs.Named.{block_in, direct_in};
     ghost use Rattle.journal_script.specs.Line.{handle_in, number_in, word_of};
 
-    /// The handle that it names.
+    /// The handle that it names, if any.
     pub fn handle(&self) -> Option<HandleName>
         ensures { result ≡ handle_in self.now }
     {
@@ -137,7 +137,7 @@ impl Operation {
         }
     }
 
-    /// The home block that it names.
+    /// The home block that it names, if any.
     pub fn block(&self) -> Option<BlockNo>
         ensures { result ≡ block_in self.now }
     {
@@ -150,7 +150,6 @@ impl Operation {
         }
     }
 
-    /// The block that it writes directly.
     fn direct_block(&self) -> Option<BlockNo>
         ensures { result ≡ direct_in self.now }
     {
@@ -160,7 +159,6 @@ impl Operation {
         }
     }
 
-    /// Notes the block of home that it names, where there is one.
     fn note_block(&self, home_blocks: u64, named: &mut BTreeSet<u64>) -> Result<(), AllocError>
         ensures keeps { OnOk result ((b : ℕ) → Contains (keys named.old) b → Contains (keys named.new) b) }
         ensures notes { OnOk result ((b : ℕ) → block_in self.now ≡ Some b → b < home_blocks → Contains (keys named.new) b) }
@@ -174,7 +172,6 @@ impl Operation {
         }
     }
 
-    /// Notes the block that it writes directly, where it is such a write.
     fn note_direct(&self, directs: &mut BTreeSet<u64>) -> Result<(), AllocError>
         ensures keeps { OnOk result ((b : ℕ) → Contains (keys directs.old) b → Contains (keys directs.new) b) }
         ensures notes { OnOk result ((b : ℕ) → direct_in self.now ≡ Some b → Contains (keys directs.new) b) }
@@ -189,7 +186,6 @@ impl Operation {
         }
     }
 
-    /// The word that its line begins with.
     fn word(&self) -> &'static str
         ensures { result.now ≡ word_of self.now }
     {
@@ -214,7 +210,6 @@ impl Operation {
         }
     }
 
-    /// The number in its line, of credits or of a block.
     fn number(&self) -> Option<u64>
         ensures { result ≡ number_in self.now }
     {
@@ -234,7 +229,7 @@ impl Operation {
 impl Script {
     ghost use Rattle.journal_script.specs.Named.{AreNamedBy};
 
-    /// The blocks that its operations name, whether these will run or not.
+    /// The blocks that its operations name, whether these run or not.
     pub fn named_blocks(&self, alloc: Global) -> Result<NamedBlocks, AllocError>
         ensures { IfOk result (AreNamedBy self.now) }
     {
@@ -280,7 +275,7 @@ impl fmt::Display for HandleName {
     }
 }
 
-/// The left side of an operation's line.
+/// The left side of the operation's line.
 impl fmt::Display for Operation {
     ghost use Rattle.journal_script.specs.Line.{operation_text};
 
@@ -293,7 +288,6 @@ impl fmt::Display for Operation {
     }
 }
 
-/// Writes the handle that an operation names, behind a blank.
 fn write_handle<W: fmt::Write>(f: &mut fmt::Formatter<W>, handle: Option<HandleName>) -> fmt::Result
     ensures { WritesOnOk W.write_str_gives f.old result (behind_blank handle) f.new }
 {
@@ -303,7 +297,6 @@ fn write_handle<W: fmt::Write>(f: &mut fmt::Formatter<W>, handle: Option<HandleN
     }
 }
 
-/// Writes the number of an operation, behind a blank.
 fn write_number<W: fmt::Write>(f: &mut fmt::Formatter<W>, number: Option<u64>) -> fmt::Result
     ensures { WritesOnOk W.write_str_gives f.old result (behind_blank number) f.new }
 {

@@ -4,7 +4,7 @@ use journal_model::Area;
 use std::fmt::Debug;
 use std::process::Abort;
 
-/// Blocks of this many bytes.
+/// Bytes of a block.
 pub const SIZE: usize = 4;
 
 /// The two areas.
@@ -12,33 +12,33 @@ pub const LOG: Area = Area::Log;
 
 pub const HOME: Area = Area::Home;
 
-/// A call of a device, with what comes of it.
+/// A call of a device, with its expected result.
 #[derive(Clone, Copy)]
 pub enum Step {
-    /// An area has so many blocks.
+    /// An area has this many blocks.
     Has(Area, u64),
     /// A block is filled with a byte.
     Writes(Area, u64, u8),
-    /// It can't be.
+    /// That fails.
     CantWrite(Area, u64, u8),
     /// A block reads as this byte.
     Reads(Area, u64, u8),
-    /// An area has as many blocks as these are bytes, and each reads as its own.
+    /// An area has exactly these blocks, by their bytes.
     ReadsAll(Area, &'static [u8]),
-    /// A block can't be read.
+    /// A read fails.
     CantRead(Area, u64),
     /// An area is flushed.
     Flushes(Area),
-    /// It can't be.
+    /// That fails.
     CantFlush(Area),
 }
 
-/// What was told is what was expected.
+/// Asserts that both are equal.
 pub fn expect<T: PartialEq + Debug>(rt: &impl Abort, told: &T, expected: &T) {
     assert_eq!(rt; told, expected);
 }
 
-/// Fills a block with a byte, if it is there.
+/// Fills a block with a byte, if it exists.
 pub(crate) fn write<D: Device>(
     device: &mut D,
     area: Area,
@@ -51,7 +51,7 @@ pub(crate) fn write<D: Device>(
     Some(device.write(area, block, &[byte; SIZE]))
 }
 
-/// The first byte of a block, if it is there.
+/// The first byte of a block, if it exists.
 fn read<D: Device>(device: &mut D, area: Area, block: u64) -> Option<Result<u8, DeviceFault>> {
     if device.block_size() != SIZE || device.blocks(area) <= block {
         return None;
@@ -63,7 +63,6 @@ fn read<D: Device>(device: &mut D, area: Area, block: u64) -> Option<Result<u8, 
     })
 }
 
-/// Whether an area has as many blocks as these are bytes, and each reads as its own.
 fn reads_all<D: Device>(device: &mut D, area: Area, bytes: &[u8]) -> bool {
     for (block, byte) in bytes.iter().enumerate() {
         if read(device, area, block as u64) != Some(Ok(*byte)) {
@@ -73,7 +72,7 @@ fn reads_all<D: Device>(device: &mut D, area: Area, bytes: &[u8]) -> bool {
     device.blocks(area) == bytes.len() as u64
 }
 
-/// Makes the call of a step. It answers whether that came of it which the step tells.
+/// Makes the call of a step, and returns whether its result is the expected one.
 fn is_so<D: Device>(device: &mut D, step: &Step) -> bool {
     match *step {
         Step::Has(area, blocks) => device.blocks(area) == blocks,
@@ -89,7 +88,7 @@ fn is_so<D: Device>(device: &mut D, step: &Step) -> bool {
     }
 }
 
-/// The place of the first of these steps of which something else comes.
+/// The place of the first step with another result.
 pub fn first_wrong<D: Device>(device: &mut D, steps: &[Step]) -> Option<usize> {
     for (n, step) in steps.iter().enumerate() {
         if !is_so(device, step) {

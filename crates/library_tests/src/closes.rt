@@ -1,5 +1,5 @@
-//! A close that has to finish a commit first: all memory that it takes it asks for before its first call of the device. In the gate no
-//! request is refused: `bench/refused_memory.py` runs this test once for each request, and refuses it.
+//! A close that has to finish a commit first asks for all its memory before its first device call. In the gate no request is refused:
+//! `bench/refused_memory.py` runs this test once for each request, and refuses it.
 use crate::logs::{formatted, opened};
 use crate::newest::{change, journal_on};
 use block_device::MemDevice;
@@ -12,13 +12,13 @@ use std::test::Fail;
 /// A journal whose record is kept as data.
 type Kept = Journal<MemDevice, Vec<Sealed>>;
 
-/// Blocks of the log: a transaction of all that the running one has fits.
+/// Blocks of the log, enough for a transaction of all blocks of the running one.
 const LOG_BLOCKS: u32 = 129;
 
-/// The blocks that the running transaction has: more than the lists and tables of a journal have room for before they grow.
+/// The blocks of the running transaction: more than a journal's lists and tables hold before they grow.
 const RUNNING: Range<u64> = 10..30;
 
-/// Writes a block, and takes four turns of its commit, of which the first one seals; then writes others.
+/// Writes a block, takes four turns of its commit, of which the first seals, and then writes other blocks.
 fn commit_beside(journal: &mut Kept) -> Result<(), JournalError> {
     let ticket = change(journal, 9, 7)?;
     journal.request(&ticket)?;
@@ -31,7 +31,7 @@ fn commit_beside(journal: &mut Kept) -> Result<(), JournalError> {
     Ok(())
 }
 
-/// A journal in which one transaction is being committed, and another one has blocks.
+/// A journal with a commit under way, and blocks in the next transaction.
 fn with_a_commit_under_way(alloc: Global) -> Result<Kept, JournalError> {
     let opened = opened(alloc, formatted(alloc, LOG_BLOCKS, 64)?)?;
     let mut journal = journal_on(alloc, opened)?;
@@ -39,17 +39,17 @@ fn with_a_commit_under_way(alloc: Global) -> Result<Kept, JournalError> {
     Ok(journal)
 }
 
-/// What a journal left: how many transactions are sealed, how many of them are committed, and how many writes its device was given.
+/// How many transactions are sealed, how many are committed, and how many writes the device was given.
 fn counts(parts: &Parts<MemDevice, Vec<Sealed>>) -> (usize, u64, u64) {
     (parts.sealed.len(), parts.committed, parts.device.writes())
 }
 
-/// What it would leave without a close.
+/// The counts without a close.
 fn unclosed(alloc: Global) -> Result<(usize, u64, u64), JournalError> {
     Ok(counts(&with_a_commit_under_way(alloc)?.into_parts()))
 }
 
-/// Closes a journal in which a commit is under way, and no handle is open. It answers why that was refused, and what is left.
+/// Closes the journal. Returns the refusal, if any, and the counts.
 fn closed(alloc: Global) -> Result<(Option<JournalError>, (usize, u64, u64)), JournalError> {
     let journal = with_a_commit_under_way(alloc)?;
     if journal.has_open_handles() {
@@ -64,7 +64,7 @@ fn closed(alloc: Global) -> Result<(Option<JournalError>, (usize, u64, u64)), Jo
     }
 }
 
-/// It prints what came of the close, once there was memory for what comes before it.
+/// Prints the result of the close, if there was memory for what comes before it.
 #[test]
 fn a_close_takes_its_memory_before_its_first_call(rt: HostRuntime) -> Result<(), Fail> {
     let (Ok(before), Ok((refusal, left))) = (unclosed(rt.alloc()), closed(rt.alloc())) else {

@@ -7,10 +7,9 @@ use journal_model::{Block, BlockNo, Entry};
 use std::alloc::{AllocError, Global};
 use std::test::Fail;
 
-/// The block.
 const BLOCK: BlockNo = BlockNo(5);
 
-/// The first byte of a block's copy, 0 for a revoke, or nothing where the block has no entry.
+/// The first byte of a block's copy, 0 for a revoke, `None` without an entry.
 pub fn shown(entry: Option<&Entry>) -> Option<u8> {
     match entry? {
         Entry::Copy(copy) => copy.bytes().first().copied(),
@@ -18,10 +17,9 @@ pub fn shown(entry: Option<&Entry>) -> Option<u8> {
     }
 }
 
-/// What the block has: its newer entry, that of the transaction that runs, and that of the one that is being committed.
+/// A block's newer entry, its entry in the running transaction, and its entry in the committing one.
 type Entries = [Option<u8>; 3];
 
-/// What the block has.
 fn looked_up(cache: &VersionCache) -> Entries {
     [
         shown(cache.get(BLOCK)),
@@ -30,14 +28,14 @@ fn looked_up(cache: &VersionCache) -> Entries {
     ]
 }
 
-/// Writes a copy whose bytes begin with this one.
+/// Writes a copy that begins with this byte.
 fn write(alloc: Global, cache: &mut VersionCache, byte: u8) -> Result<(), AllocError>
     ensures { cache.new.committing ≡ cache.old.committing }
 {
     cache.write(BLOCK, Entry::Copy(Block::copy_of(alloc, &[byte])?))
 }
 
-/// What the block has once it is written, and once that is sealed.
+/// The entries after a write, and after its seal.
 fn written_and_sealed(alloc: Global, cache: &mut VersionCache) -> Result<[Entries; 2], AllocError>
     requires { cache.old.committing ≡ [] }
 {
@@ -47,7 +45,7 @@ fn written_and_sealed(alloc: Global, cache: &mut VersionCache) -> Result<[Entrie
     Ok([written, looked_up(cache)])
 }
 
-/// What it has once it is written and then revoked while the transaction before is being committed.
+/// The entries after a write and after a revoke, while the previous transaction is being committed.
 fn written_and_revoked(
     alloc: Global,
     cache: &mut VersionCache,
@@ -58,7 +56,7 @@ fn written_and_revoked(
     Ok([written, looked_up(cache)])
 }
 
-/// What it has once the commit is done, once the next transaction is sealed, and once that is done.
+/// The entries after the commit, after the next seal, and after the next commit.
 fn finished_and_sealed(cache: &mut VersionCache) -> [Entries; 3] {
     cache.finish();
     let finished = looked_up(cache);
@@ -68,7 +66,7 @@ fn finished_and_sealed(cache: &mut VersionCache) -> [Entries; 3] {
     [finished, sealed, looked_up(cache)]
 }
 
-/// What it has at each of these steps.
+/// The entries at each of these steps.
 fn shown_by_turns(alloc: Global, cache: &mut VersionCache) -> Result<[Entries; 7], AllocError>
     requires { cache.old.committing ≡ [] }
 {
@@ -94,7 +92,7 @@ fn a_block_is_written_while_it_is_being_committed(rt: HostRuntime) -> Result<(),
     Ok(())
 }
 
-/// How many hold the bytes of a block once a transaction that writes it is sealed, and once its commit is done.
+/// How many hold a block's bytes after the seal of their transaction, and after its commit.
 fn holders(alloc: Global, cache: &mut VersionCache) -> Result<(usize, usize), AllocError>
     requires { cache.old.committing ≡ [] }
 {
@@ -106,7 +104,7 @@ fn holders(alloc: Global, cache: &mut VersionCache) -> Result<(usize, usize), Al
     Ok((sealed, written.holders()))
 }
 
-/// A seal copies no bytes: the copy that is handed over shares them with the one that was written.
+/// A seal copies no bytes: the copy that it hands over shares them with the written one.
 #[test]
 fn a_seal_shares_the_bytes(rt: HostRuntime) -> Result<(), Fail> {
     let told = holders(rt.alloc(), &mut VersionCache::new(rt.alloc()));

@@ -1,4 +1,4 @@
-//! Reserves and loads of one thread and of two, with answers worked out by hand.
+//! Credits and the commit mark, in one thread and in two, with answers worked out by hand.
 ghost use Rattle.std.specs.Prelude.{◌≡◌};
 
 use crate::bytes::expect;
@@ -10,7 +10,7 @@ use std::sync::atomic::{AtomicU64, Ordering};
 use std::test::Fail;
 use std::thread::{Threads, join};
 
-/// The number of the refusal where n credits are refused, else 0: then they are given back.
+/// The number of the refusal of n credits, or 0; then they are given back.
 fn refusal<J: JournalName>(pool: &CreditPool<J>, seat: &mut Seat<J>, n: u64) -> u8 {
     match pool.reserve(seat, n) {
         Ok(credits) => {
@@ -44,8 +44,7 @@ fn credits<J: JournalName, R: Abort>(rt: &R, pool: &CreditPool<J>, seat: &mut Se
     expect(rt, &told, &(6, [5, 0], 0, [4, 2], [6, 6, 4, 0]));
 }
 
-/// A handle of transaction 2 stops, and asks whether it is committed, where the mark is 1 at first. Its credits lie in one value
-/// with that of its entry.
+/// A handle of transaction 2 stops, and asks whether it is committed; the mark is 1 at first. Its credits are held with those of its entry.
 fn answers<J: JournalName, R: Abort>(
     rt: &R,
     pool: &CreditPool<J>,
@@ -75,7 +74,7 @@ fn answers<J: JournalName, R: Abort>(
     asks(rt, mark, raiser, seat, ticket);
 }
 
-/// A ticket of transaction 2 asks before and after the mark comes to it.
+/// A ticket of transaction 2 asks before and after the mark reaches it.
 fn asks<J: JournalName, R: Abort>(
     rt: &R,
     mark: &CommitMark<J>,
@@ -104,8 +103,7 @@ fn asks<J: JournalName, R: Abort>(
 /// How often each thread reserves.
 const ROUNDS: u64 = 1_000_000;
 
-/// Reserves 4 of 6 credits over and over, and counts in `held` what is granted: never more than 4 at once. It answers
-/// whether that was so.
+/// Reserves 4 of 6 credits over and over, and counts the granted ones in `held`. Returns whether it was never more than 4.
 fn hammer<J: JournalName>(pool: &CreditPool<J>, mut seat: Seat<J>, held: &AtomicU64) -> bool {
     let mut within = true;
     for _ in 0..ROUNDS {
@@ -118,7 +116,7 @@ fn hammer<J: JournalName>(pool: &CreditPool<J>, mut seat: Seat<J>, held: &Atomic
     within
 }
 
-/// Two threads reserve and give back at once; then the word is what it was.
+/// Two threads reserve and give back at once; then the word is as before.
 fn two_at_once<J: JournalName + Send + Sync, R: Threads + Abort + Sync>(
     rt: &R,
     pool: &CreditPool<J>,
@@ -137,7 +135,7 @@ fn two_at_once<J: JournalName + Send + Sync, R: Threads + Abort + Sync>(
     expect(rt, &(one && other, left), &(true, (0, 0)));
 }
 
-/// All of it on one board of 6 credits.
+/// All of these on one board of 6 credits.
 fn on_board<J: JournalName + Send + Sync, R: Threads + Abort + Sync>(rt: &R, laid: LaidBoard)
     requires { (laid.board ≡ J.name.board) × (laid.capacity ≡ J.name.capacity) }
 {

@@ -1,11 +1,11 @@
-//! The examples, over a device in memory: of a journal, and of one that threads share.
+//! The examples over a device in memory: of one thread, and of threads that share a journal.
 
 use crate::bytes::expect;
 use block_device::MemDevice;
 use journal_example::work;
 use std::test::Fail;
 
-/// The blocks change in transaction 2, the first one behind a format; the read makes no transaction.
+/// The blocks change in transaction 2, the first after a format; the read makes no transaction.
 #[test]
 fn two_blocks_change_together(rt: HostRuntime) -> Result<(), Fail> {
     let Ok(done) = work(rt.alloc(), MemDevice::new(rt.alloc(), 1024, 33, 64)) else {
@@ -16,7 +16,7 @@ fn two_blocks_change_together(rt: HostRuntime) -> Result<(), Fail> {
     Ok(())
 }
 
-/// Each of two threads is told of two changes that they are safe: in two transactions at least, and four at most.
+/// Each of two threads learns that its two changes are safe; they took two to four transactions.
 #[test]
 fn two_threads_change_blocks(rt: HostRuntime) -> Result<(), Fail> {
     let device = MemDevice::new(rt.alloc(), 1024, 33, 64);

@@ -8,39 +8,37 @@ use std::fs::{File, OpenOptions};
 use std::test::Fail;
 use std::{fs, io};
 
-/// A file that a device is made over.
+/// A file for a device.
 #[derive(Clone, Copy)]
 pub enum Made<'a> {
     /// It holds these bytes.
     Written(&'a [u8]),
-    /// It holds these bytes, and can't be written through the device's handle.
+    /// It holds these bytes, and the device can't write it.
     ReadOnly(&'a [u8]),
-    /// It has no bytes, and fails to be synced.
+    /// It is empty, and a sync of it fails.
     Unsynced,
 }
 
-/// Calls of a device over files, with what comes of them.
+/// Calls of a device over files, with their expected results.
 pub struct Case {
-    /// The folder that the files lie in, alone.
+    /// The folder of the files, which holds nothing else.
     pub folder: &'static str,
     pub log: Made<'static>,
     pub home: Option<Made<'static>>,
     pub steps: &'static [Step],
-    /// What files hold behind the calls, by their names.
+    /// What the files hold after the calls, by name.
     pub files: &'static [(&'static str, &'static [u8])],
 }
 
-/// The path of a file in a folder.
 fn path_of(rt: &HostRuntime, folder: &str, name: &str) -> io::Result<String> {
     Ok(format!(in rt.alloc(); "{folder}/{name}")?)
 }
 
-/// Opens a file for reading and writing.
 fn open(rt: &HostRuntime, path: &str) -> io::Result<File> {
     OpenOptions::new().read(true).write(true).open(rt, path)
 }
 
-/// Makes the file of a path, and opens it.
+/// Makes a file, and opens it.
 fn make_at(rt: &HostRuntime, path: &str, made: &Made) -> io::Result<File> {
     match made {
         Made::Written(bytes) => {
@@ -60,7 +58,7 @@ fn make(rt: &HostRuntime, folder: &str, name: &str, made: &Made) -> io::Result<F
     make_at(rt, path_of(rt, folder, name)?.as_str(), made)
 }
 
-/// Makes the file `home` in a folder, if there is to be one, and opens it.
+/// Makes and opens the file `home` of a folder, if there is to be one.
 fn make_home(rt: &HostRuntime, folder: &str, home: Option<&Made>) -> io::Result<Option<File>> {
     match home {
         Some(home) => Ok(Some(make(rt, folder, "home", home)?)),
@@ -68,13 +66,13 @@ fn make_home(rt: &HostRuntime, folder: &str, home: Option<&Made>) -> io::Result<
     }
 }
 
-/// Makes a folder without a file.
+/// Makes an empty folder.
 fn make_folder(rt: &HostRuntime, folder: &str) -> io::Result<()> {
     let _ = fs::remove_dir_all(rt, folder);
     fs::create_dir(rt, folder)
 }
 
-/// A device over the files `log` and `home`, alone in a folder of this name, in blocks of so many bytes.
+/// A device over the files `log` and `home`, alone in this folder.
 pub fn device_over(
     rt: &HostRuntime,
     folder: &str,
@@ -90,17 +88,16 @@ pub fn device_over(
     Ok(FileDevice::new(rt.alloc(), UnknownContents, block_size, log, home)?)
 }
 
-/// Whether the file of a path holds these bytes, no more and no less.
 fn holds_at(rt: &HostRuntime, path: &str, bytes: &[u8]) -> io::Result<bool> {
     Ok(fs::read(rt, path)?.as_slice() == bytes)
 }
 
-/// Whether a file of a folder holds these bytes, no more and no less.
+/// Whether a file of a folder holds exactly these bytes.
 pub fn holds(rt: &HostRuntime, folder: &str, name: &str, bytes: &[u8]) -> io::Result<bool> {
     holds_at(rt, path_of(rt, folder, name)?.as_str(), bytes)
 }
 
-/// Whether the files of a case hold what they are to hold behind its calls.
+/// Whether the files of a case hold what they should after its calls.
 fn hold(rt: &HostRuntime, case: &Case) -> bool {
     for (name, bytes) in case.files {
         if !matches!(holds(rt, case.folder, name, bytes), Ok(true)) {
@@ -110,14 +107,14 @@ fn hold(rt: &HostRuntime, case: &Case) -> bool {
     true
 }
 
-/// What came of a case: the place of the first step of which something else came; whether the files held what they are to hold, to other
-/// handles, while the device was there; and whether they held it once the device was let go.
+/// The result of a case: the place of the first step with another result; whether other handles saw the files' expected bytes while the
+/// device existed; and whether they did after it was dropped.
 pub type Told = (Option<usize>, bool, bool);
 
-/// All was as it was to be.
+/// All is as expected.
 pub const RIGHT: Told = (None, true, true);
 
-/// Makes the calls of a case on its device, and lets that go. It answers the first two of what comes of it.
+/// Makes the calls of a case and drops its device. Returns the first two parts of the result.
 fn call(
     rt: &HostRuntime,
     device: FileDevice<UnknownContents>,
@@ -127,7 +124,7 @@ fn call(
     (first_wrong(&mut device, case.steps), hold(rt, case))
 }
 
-/// Makes the calls of a case on its device, lets that go, and removes the folder. It answers what came of it.
+/// Makes the calls of a case, drops its device, and removes the folder.
 fn called(rt: &HostRuntime, device: FileDevice<UnknownContents>, case: &Case) -> io::Result<Told> {
     let (wrong, held) = call(rt, device, case);
     let kept = hold(rt, case);
@@ -135,12 +132,11 @@ fn called(rt: &HostRuntime, device: FileDevice<UnknownContents>, case: &Case) ->
     Ok((wrong, held, kept))
 }
 
-/// The device of a case.
 fn device_of(rt: &HostRuntime, case: &Case) -> io::Result<FileDevice<UnknownContents>> {
     device_over(rt, case.folder, SIZE, &case.log, case.home.as_ref())
 }
 
-/// Makes a device over the files of a case and its calls. It answers what came of it.
+/// Makes the device of a case and its calls. Returns the result.
 pub fn told(rt: &HostRuntime, case: &Case) -> io::Result<Told> {
     called(rt, device_of(rt, case)?, case)
 }
@@ -172,7 +168,7 @@ fn a_device_over_two_files_has_their_whole_blocks(rt: HostRuntime) -> Result<(),
     Ok(())
 }
 
-/// It reads, through a handle that can't write, and flushes home.
+/// The device reads through a handle that can't write, and flushes home.
 #[test]
 fn a_log_alone_has_no_home_block(rt: HostRuntime) -> Result<(), Fail> {
     const CASE: Case = Case {
@@ -191,7 +187,7 @@ fn a_log_alone_has_no_home_block(rt: HostRuntime) -> Result<(), Fail> {
     Ok(())
 }
 
-/// Once a write of one area has failed, the other is read, and neither written nor flushed.
+/// After a failed write of one area the other is read, but neither written nor flushed.
 #[test]
 fn after_a_failed_write_nothing_is_written(rt: HostRuntime) -> Result<(), Fail> {
     const CASE: Case = Case {
@@ -211,7 +207,7 @@ fn after_a_failed_write_nothing_is_written(rt: HostRuntime) -> Result<(), Fail> 
     Ok(())
 }
 
-/// The same of a flush.
+/// The same after a failed flush.
 #[test]
 fn after_a_failed_flush_nothing_is_written(rt: HostRuntime) -> Result<(), Fail> {
     const CASE: Case = Case {
@@ -255,14 +251,14 @@ fn cut_log(rt: &HostRuntime, case: &Case) -> io::Result<()> {
     open(rt, path_of(rt, case.folder, "log")?.as_str())?.set_len(6)
 }
 
-/// What comes of a case whose log is cut once its device is made.
+/// The result of a case whose log is cut after its device is made.
 fn told_once_cut(rt: &HostRuntime, case: &Case) -> io::Result<Told> {
     let device = device_of(rt, case)?;
     cut_log(rt, case)?;
     called(rt, device, case)
 }
 
-/// Another handle took half of the second block away, so that a read of it meets the end of the file.
+/// Another handle removed half of the second block, so that a read of it meets the end of the file.
 #[test]
 fn after_a_failed_read_the_device_goes_on(rt: HostRuntime) -> Result<(), Fail> {
     const CASE: Case = Case {
@@ -283,7 +279,7 @@ fn after_a_failed_read_the_device_goes_on(rt: HostRuntime) -> Result<(), Fail> {
     Ok(())
 }
 
-/// What a device over these files tells of its failure, once a block of home was to be written.
+/// What the device reports of its failure, after a write to home.
 fn told_failure(rt: &HostRuntime, folder: &str, home: &Made) -> Result<String, Fail> {
     let log = Made::Written(b"aaaabbbb");
     let mut device = device_over(rt, folder, SIZE, &log, Some(home))?;
@@ -308,13 +304,13 @@ fn a_failure_tells_what_the_system_answered(rt: HostRuntime) -> Result<(), Fail>
     Ok(())
 }
 
-/// Bytes of the largest block of a log.
+/// Bytes of a log's largest block.
 const LARGEST: usize = 4096;
 
 /// Bytes of a log of three such blocks.
 const THREE: usize = 3 * LARGEST;
 
-/// A log whose block 1 has bytes that follow one another, and whose other blocks are zeros.
+/// A log whose block 1 has consecutive bytes, and whose other blocks are zeros.
 fn one_written_block() -> [u8; THREE] {
     let mut log = [0; THREE];
     let mut byte = 0u8;
@@ -325,7 +321,7 @@ fn one_written_block() -> [u8; THREE] {
     log
 }
 
-/// Writes block 1 of a log, and answers whether the device reads it so then.
+/// Writes block 1 of a log. Returns whether the device reads it back.
 fn reads_as_written<D: Device>(device: &mut D, block: &[u8]) -> bool {
     let mut read = [0xff; LARGEST];
     device.block_size() == LARGEST
@@ -337,7 +333,7 @@ fn reads_as_written<D: Device>(device: &mut D, block: &[u8]) -> bool {
         && read.as_slice() == block
 }
 
-/// Whether block 1 of a log is read as it was written, and the file holds it so. It is made of zeros.
+/// Whether block 1 of a log of zeros reads as written, and whether the file holds it so.
 fn written_whole(rt: &HostRuntime, folder: &str, log: &[u8; THREE]) -> io::Result<(bool, bool)> {
     let zeros = Made::Written(&[0; THREE]);
     let mut device = device_over(rt, folder, LARGEST, &zeros, None)?;

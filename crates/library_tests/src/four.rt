@@ -1,5 +1,5 @@
-//! Four threads write, read, revoke, write directly and audit over one journal, which is closed then: its record is judged as data,
-//! and the home area as the record says.
+//! Four threads write, read, revoke, write directly and audit over one journal. After its close the record is judged as data, and the home
+//! area by the record.
 ghost use Rattle.std.specs.Prelude.{◌≡◌};
 
 use crate::bytes::expect;
@@ -17,13 +17,13 @@ use std::thread::{self, Threads, join};
 /// How often all four run.
 const RUNS: u64 = 100;
 
-/// How many handles each thread has, one behind the other.
+/// How many handles each thread has, one after another.
 const HANDLES: u8 = 6;
 
 /// How many handles all four have.
 const ALL_HANDLES: u64 = 24;
 
-/// How often a thread asks again where it was told to wait.
+/// How often a thread asks again if it must wait.
 const ASKS: u64 = 100_000;
 
 /// Blocks of the home area.
@@ -35,8 +35,7 @@ const SHARED: u64 = 40;
 /// The first of four blocks, each of which one thread writes directly.
 const DIRECT: u64 = 50;
 
-/// Takes a turn for whoever has to wait: of the commit, or of a round where the log is full. It answers whether that was refused for
-/// good.
+/// Takes a commit turn, or a checkpoint turn if the log is full. Returns false if it is refused for good.
 fn take_turn<J: JournalName, D: Device, K: Record, R: Wait>(
     rt: &R,
     journal: &Journal<J, D, K>,
@@ -48,7 +47,7 @@ fn take_turn<J: JournalName, D: Device, K: Record, R: Wait>(
     }
 }
 
-/// Starts a handle of three credits. Where there is no room for it, the running transaction is locked and turns are taken.
+/// Starts a handle of three credits. Without room for it, locks the running transaction and takes turns.
 fn start<'a, J: JournalName, D: Device, K: Record, R: Wait>(
     rt: &R,
     journal: &'a Journal<J, D, K>,
@@ -69,8 +68,8 @@ fn start<'a, J: JournalName, D: Device, K: Record, R: Wait>(
     None
 }
 
-/// The steps of one handle: two blocks are written, of which one is this thread's own and is read again, and one is revoked. It
-/// answers whether each was done, and the own block read as it was written.
+/// The steps of one handle: it writes the thread's own block and the shared one, reads its own, and revokes one. Returns whether each was
+/// done, and the own block reads as written.
 fn touch<J: JournalName, D: Device, K: Record, R: Wait>(
     rt: &R,
     journal: &Journal<J, D, K>,
@@ -94,7 +93,7 @@ fn touch<J: JournalName, D: Device, K: Record, R: Wait>(
         && journal.revoke(rt, handle, revoked).is_ok()
 }
 
-/// Takes turns until the ticket's transaction is committed, and looks with its receipt.
+/// Takes turns until the ticket's transaction is committed, and audits the receipt.
 fn see_through<J: JournalName, D: Device, K: Record, R: Wait>(
     rt: &R,
     journal: &Journal<J, D, K>,
@@ -121,8 +120,8 @@ fn see_through<J: JournalName, D: Device, K: Record, R: Wait>(
     false
 }
 
-/// What one thread does: each of its handles writes, reads and revokes, and each second one is waited for; a block of its own is
-/// written directly. It answers whether all of it was done.
+/// The work of one thread: its handles write, read and revoke, and it waits for every other one; then it writes a block directly. Returns
+/// whether all was done.
 fn work<J: JournalName, D: Device, K: Record, R: Wait>(
     rt: &R,
     journal: &Journal<J, D, K>,
@@ -162,7 +161,7 @@ fn first_two<
     one && two
 }
 
-/// The last two.
+/// The last two at once.
 fn last_two<
     J: JournalName + Send + Sync,
     D: Device + Send,
@@ -177,7 +176,6 @@ fn last_two<
     one && two
 }
 
-/// All four at once.
 fn all_four<
     J: JournalName + Send + Sync,
     D: Device + Send,
@@ -193,7 +191,7 @@ fn all_four<
     first && last
 }
 
-/// The bytes that the last of these steps that is no read gave a block, where it wrote it.
+/// The bytes of a block after these steps, if the last step that is no read wrote it.
 fn last_write(steps: &[Step], block: BlockNo) -> Option<&[u8]> {
     let mut last = None;
     for step in steps.iter() {
@@ -208,7 +206,7 @@ fn last_write(steps: &[Step], block: BlockNo) -> Option<&[u8]> {
     last
 }
 
-/// Whether a step that is a read behind these steps gave the bytes of the last write of its block, where one stands.
+/// Whether a read after these steps gave the bytes of the last write of its block, if there is one.
 fn is_true_read(before: &[Step], step: &Step) -> bool {
     match (&step.op, last_write(before, step.block)) {
         (Op::Read(seen), Some(bytes)) => bytes == seen.bytes(),
@@ -216,7 +214,7 @@ fn is_true_read(before: &[Step], step: &Step) -> bool {
     }
 }
 
-/// Whether each read of a transaction that comes behind a write of its block gave the bytes of the last write.
+/// Whether each read of a transaction gave the bytes of the last write of its block before it.
 fn is_legal(sealed: &Sealed) -> bool {
     let steps = sealed.steps.as_slice();
     let mut is_legal = true;
@@ -226,7 +224,7 @@ fn is_legal(sealed: &Sealed) -> bool {
     is_legal
 }
 
-/// In how many of these transactions a handle stands, with how often it stands there.
+/// How often a handle is in these transactions.
 fn times(sealed: &[Sealed], handle: HandleNo) -> u64 {
     let mut times: u64 = 0;
     for transaction in sealed.iter() {
@@ -239,7 +237,7 @@ fn times(sealed: &[Sealed], handle: HandleNo) -> u64 {
     times
 }
 
-/// Whether all handles of the threads stand in the record, each once, in transactions that are legal.
+/// Whether the record has each handle of the threads once, in legal transactions.
 fn is_whole(sealed: &[Sealed]) -> bool {
     let mut handles: u64 = 0;
     let mut is_whole = true;
@@ -262,7 +260,7 @@ fn touches(steps: &[Step], block: BlockNo) -> bool {
     touches
 }
 
-/// The bytes of the last copy of a block in these transactions, where no revoke comes behind it.
+/// The bytes of a block's last copy in these transactions, if no revoke follows it.
 fn last_copy(sealed: &[Sealed], block: BlockNo) -> Option<&[u8]> {
     let mut last = None;
     for transaction in sealed.iter() {
@@ -274,7 +272,7 @@ fn last_copy(sealed: &[Sealed], block: BlockNo) -> Option<&[u8]> {
     last
 }
 
-/// The byte that a block of home is full of, where the record has no copy of it: what a thread wrote directly, or 0.
+/// The byte that fills a block without a copy in the record: what a thread wrote directly, or 0.
 fn direct_byte(block: u64) -> u8 {
     match block {
         50 => 1,
@@ -285,7 +283,7 @@ fn direct_byte(block: u64) -> u8 {
     }
 }
 
-/// Whether a block of the home area reads as the record says, and where that has no copy of it, as direct writes left it.
+/// Whether a home block reads as the record says or, without a copy there, as direct writes left it.
 fn is_home(device: &mut MemDevice, sealed: &[Sealed], block: BlockNo) -> bool {
     let mut bytes = [0; 1024];
     if device.block_size() != 1024
@@ -300,7 +298,7 @@ fn is_home(device: &mut MemDevice, sealed: &[Sealed], block: BlockNo) -> bool {
     }
 }
 
-/// Whether what a journal left is what four threads did over it.
+/// Whether what a journal left is what the four threads did.
 fn is_right(parts: Parts<MemDevice, Vec<Sealed>>) -> bool {
     let Parts {
         mut device,
@@ -314,7 +312,7 @@ fn is_right(parts: Parts<MemDevice, Vec<Sealed>>) -> bool {
     is_right
 }
 
-/// Four threads over a journal, which is closed then.
+/// Four threads over a journal, which is then closed.
 fn worked<J: JournalName + Send + Sync, R: Threads + Wait + Abort + Sync>(
     rt: &R,
     laid: LaidJournal<MemDevice, Vec<Sealed>>,
@@ -336,7 +334,7 @@ fn worked<J: JournalName + Send + Sync, R: Threads + Wait + Abort + Sync>(
     expect(rt, &(done, is_right(parts)), &(true, true));
 }
 
-/// One run, over a ring that goes round several times.
+/// One run, over a ring that wraps several times.
 fn run<R: Threads + Wait + Abort + Sync>(rt: &R, alloc: Global) -> Result<(), JournalError> {
     let laid = laid_on(alloc, formatted(alloc, 65, HOME_BLOCKS)?)?;
     worked::<Brand, _>(rt, laid);

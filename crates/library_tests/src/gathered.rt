@@ -1,4 +1,4 @@
-//! Writes that follow one another, over real files.
+//! Consecutive writes over real files.
 use crate::bytes::{HOME, LOG, Step, expect};
 use crate::files::{Case, Made, RIGHT, told};
 use std::test::Fail;
@@ -24,7 +24,7 @@ fn a_gathered_block_reads_as_it_was_written_last(rt: HostRuntime) -> Result<(), 
     Ok(())
 }
 
-/// The file does not hold it before.
+/// The file lacks it before that.
 #[test]
 fn what_is_gathered_is_written_when_the_device_is_let_go(rt: HostRuntime) -> Result<(), Fail> {
     const CASE: Case = Case {
@@ -38,8 +38,8 @@ fn what_is_gathered_is_written_when_the_device_is_let_go(rt: HostRuntime) -> Res
     Ok(())
 }
 
-/// A log that can't be written takes two blocks, and fails when they are to be written. From then on they are read, and nothing is
-/// written or flushed.
+/// A log that can't be written takes two blocks, and the flush of them fails. They are still read, and nothing is written or flushed any
+/// more.
 #[test]
 fn gathered_blocks_that_fail_are_read_from_the_device(rt: HostRuntime) -> Result<(), Fail> {
     const CASE: Case = Case {
@@ -60,7 +60,7 @@ fn gathered_blocks_that_fail_are_read_from_the_device(rt: HostRuntime) -> Result
     Ok(())
 }
 
-/// A log that can't be written takes a block, which then fails at a write to home: that is not made.
+/// A log that can't be written takes a block, which fails at a write to home; that write is not made.
 #[test]
 fn a_write_elsewhere_fails_with_what_was_gathered(rt: HostRuntime) -> Result<(), Fail> {
     const CASE: Case = Case {
@@ -79,7 +79,7 @@ fn a_write_elsewhere_fails_with_what_was_gathered(rt: HostRuntime) -> Result<(),
     Ok(())
 }
 
-/// Writes follow one another in either area, and go to one area between those to the other; then home alone is flushed.
+/// Consecutive writes to one area, with writes to the other between them; then only home is flushed.
 #[test]
 fn writes_to_both_areas_by_turns_are_kept(rt: HostRuntime) -> Result<(), Fail> {
     const CASE: Case = Case {
@@ -109,7 +109,7 @@ fn writes_to_both_areas_by_turns_are_kept(rt: HostRuntime) -> Result<(), Fail> {
     Ok(())
 }
 
-/// A log is gone over twice while its block 2 is gathered, and once behind a flush.
+/// The log is read through twice around a gathered write of block 2, and once after a flush.
 #[test]
 fn a_log_that_is_gone_over_shows_what_is_gathered(rt: HostRuntime) -> Result<(), Fail> {
     const CASE: Case = Case {

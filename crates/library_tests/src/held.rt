@@ -1,4 +1,4 @@
-//! A handle writes and reads, and a read is made without one, while a device write of a commit, or of a checkpoint round, is held, and
+//! A handle writes and reads, and a read is made without one, while a device write of a commit or of a checkpoint round is held, and
 //! another thread waits for the engine.
 ghost use Rattle.std.specs.Prelude.{◌≡◌};
 
@@ -18,10 +18,10 @@ use std::thread::{self, Threads, join};
 /// How often a thread looks before it gives up.
 const LOOKS: u32 = 2_000_000;
 
-/// How often it lets others go on, so that who has asked for the engine's lock waits for it.
+/// How often it yields, so that the thread that asked for the engine's lock waits for it.
 const PAUSES: u32 = 10_000;
 
-/// Looks until the word is not 0. It answers whether it came to that.
+/// Looks until the word is not 0. Returns whether it came to that.
 fn is_set(word: &AtomicU64) -> bool {
     for _ in 0..LOOKS {
         if word.load(Ordering::SeqCst) != 0 {
@@ -32,13 +32,13 @@ fn is_set(word: &AtomicU64) -> bool {
     false
 }
 
-/// May hold a write for a while. It waits for nobody without a limit.
+/// May hold a write for a limited time.
 trait Gate {
-    /// A write of this area is about to be made.
+    /// Called before a write to this area.
     fn pass(&self, area: Area);
 }
 
-/// Holds the first write of an area until somebody has written meanwhile, or gives up.
+/// Holds the first write of an area until a block was written meanwhile, or gives up.
 #[derive(Drop)]
 struct Overtaking {
     area: Area,
@@ -77,7 +77,7 @@ impl<G: Gate> Gate for &G {
     }
 }
 
-/// A device each of whose calls is one of the device behind it. A write passes the gate first.
+/// A device that passes a gate before each write.
 #[derive(Drop)]
 struct HeldDevice<D, G> {
     device: D,
@@ -111,7 +111,7 @@ impl<D: Device, G: Gate> Device for HeldDevice<D, G> {
     }
 }
 
-/// Writes one block through a handle of its own. It answers the handle's ticket.
+/// Writes one block through a handle of its own. Returns the handle's ticket.
 fn write_one<J: JournalName, D: Device, R: Wait>(
     rt: &R,
     journal: &Journal<J, D>,
@@ -132,7 +132,7 @@ fn write_one<J: JournalName, D: Device, R: Wait>(
     }
 }
 
-/// Writes one block, and takes commit turns until its transaction is committed. It answers whether it is.
+/// Writes one block, and takes commit turns until its transaction is committed. Returns whether it is.
 fn commit_one<J: JournalName, D: Device, R: Wait>(
     rt: &R,
     journal: &Journal<J, D>,
@@ -154,7 +154,7 @@ fn commit_one<J: JournalName, D: Device, R: Wait>(
     false
 }
 
-/// The same, and takes turns of checkpoint rounds until nothing is left to be written home.
+/// The same, and takes checkpoint turns until nothing is left to be written home.
 fn commit_and_checkpoint<J: JournalName, D: Device, R: Wait>(
     rt: &R,
     journal: &Journal<J, D>,
@@ -173,7 +173,7 @@ fn commit_and_checkpoint<J: JournalName, D: Device, R: Wait>(
     false
 }
 
-/// Once a write is held, reads a block of home of which the front holds no copy, and so waits for the engine. It answers whether it read.
+/// Once a write is held, reads a home block of which the front has no copy, and so waits for the engine. Returns whether it read.
 fn read_home<J: JournalName, D: Device, R: Wait>(
     rt: &R,
     journal: &Journal<J, D>,
@@ -194,8 +194,8 @@ fn read_home<J: JournalName, D: Device, R: Wait>(
     read.is_ok() && bytes[0] == 0
 }
 
-/// Writes one block through a handle of its own, and reads it, and then the one that is being committed, if there is one: the front holds
-/// both. It answers whether it read what was written.
+/// Writes one block through a handle of its own, and reads it and, if given, the one that is being committed; the front has both. Returns
+/// whether it read what was written.
 fn write_and_read<J: JournalName, D: Device, R: Wait>(
     rt: &R,
     journal: &Journal<J, D>,
@@ -220,7 +220,7 @@ fn write_and_read<J: JournalName, D: Device, R: Wait>(
     wrote.is_ok() && read.is_ok() && newest == 8 && read_other
 }
 
-/// Reads a block of which the front holds a copy, without a handle. It answers whether the copy begins with this byte.
+/// Reads a block of which the front has a copy, without a handle. Returns whether the copy begins with this byte.
 fn begins_with<J: JournalName, D: Device, R: Wait>(
     rt: &R,
     journal: &Journal<J, D>,
@@ -235,8 +235,8 @@ fn begins_with<J: JournalName, D: Device, R: Wait>(
     read.is_ok() && bytes[0] == byte
 }
 
-/// Once a write is held, and another thread waits for the engine, writes one block and reads, through a handle and without one, and lets
-/// the held one go. It answers whether that was done.
+/// Once a write is held and another thread waits for the engine, writes and reads through a handle, reads without one, and releases the
+/// held write. Returns whether that was done.
 fn overtake<J: JournalName, D: Device, R: Wait>(
     rt: &R,
     journal: &Journal<J, D>,
@@ -278,7 +278,7 @@ fn read_and_overtake<J: JournalName + Send + Sync, D: Device + Send, R: Threads 
     read && written
 }
 
-/// One thread commits and writes home, and two others read and write while one of its writes is held.
+/// One thread commits and writes home; two others read and write while one of its writes is held.
 fn commit_and_overtake<J: JournalName + Send + Sync, D: Device + Send, R: Threads + Wait + Sync>(
     rt: &R,
     journal: &Journal<J, D>,
@@ -294,7 +294,7 @@ fn commit_and_overtake<J: JournalName + Send + Sync, D: Device + Send, R: Thread
     committed && overtaken
 }
 
-/// The write of the next transaction does not wait for the one that is held. It answers how many transactions are sealed at the end.
+/// The next transaction's write does not wait for the held one. Returns how many transactions are committed at the close.
 fn overtaken<
     J: JournalName + Send + Sync,
     D: Device + Drop + Send,
@@ -334,15 +334,15 @@ fn is_overtaken<R: Threads + Wait + Abort + Sync>(
     Ok(())
 }
 
-/// Under one lock for front and engine, or where a read always took both, or where one that needs both waited for the engine's while it
-/// held the front's, it would wait for the held write, and the gate would give up.
+/// The handle would wait for the held write, and the gate would give up, with one lock for front and engine, with a read that always takes
+/// both, or with a call that waits for the engine's lock while it holds the front's.
 #[test]
 fn a_handle_writes_while_a_commit_is_held(rt: HostRuntime) -> Result<(), Fail> {
     is_overtaken(&rt, rt.alloc(), Area::Log)?;
     Ok(())
 }
 
-/// The same of a write of a checkpoint round.
+/// The same for a write of a checkpoint round.
 #[test]
 fn a_handle_writes_while_a_checkpoint_is_held(rt: HostRuntime) -> Result<(), Fail> {
     is_overtaken(&rt, rt.alloc(), Area::Home)?;

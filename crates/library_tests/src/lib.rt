@@ -1,5 +1,5 @@
-//! Tests that no row can stand for: of devices over real files, of tables and transactions, of threads, and of the example. There
-//! is nothing here but tests, and all call public functions alone: so no other library is proved a second time for them.
+//! Tests that no row can stand for: of devices over real files, tables and transactions, threads, and the examples. All call public
+//! functions alone, so that no other library is proved a second time for them.
 #![tactic(auto)]
 
 #[cfg(test)]

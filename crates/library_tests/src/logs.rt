@@ -1,4 +1,4 @@
-//! New logs on devices in memory, in blocks of 1,024 bytes, and journals that threads share on logs.
+//! New logs on devices in memory, in blocks of 1,024 bytes, and shared journals on them.
 use block_device::{Device, MemDevice};
 use journal_model::JournalError;
 use recovery::Opened;
@@ -8,14 +8,14 @@ use std::alloc::Global;
 /// Bytes of a block.
 pub const BLOCK_SIZE: usize = 1024;
 
-/// A device in memory with a new log of so many blocks, and so many blocks of home.
+/// A device in memory with a new log, of this many log and home blocks.
 pub fn formatted(alloc: Global, log: u32, home: u64) -> Result<MemDevice, JournalError> {
     let mut device = MemDevice::new(alloc, BLOCK_SIZE, u64::from(log), home);
     recovery::format(&mut device, log, &[7; 16], false)?;
     Ok(device)
 }
 
-/// The log of a device, opened.
+/// The opened log of a device.
 pub fn opened<D: Device + Drop>(alloc: Global, device: D) -> Result<Opened<D>, JournalError> {
     match recovery::open(alloc, device) {
         Ok(opened) => Ok(opened),
@@ -23,7 +23,7 @@ pub fn opened<D: Device + Drop>(alloc: Global, device: D) -> Result<Opened<D>, J
     }
 }
 
-/// A journal for threads on an opened log.
+/// An unnamed shared journal on an opened log.
 pub fn lay_on<D: Device + Drop, K: Record>(
     alloc: Global,
     opened: Opened<D>,
@@ -34,7 +34,7 @@ pub fn lay_on<D: Device + Drop, K: Record>(
     }
 }
 
-/// A journal for threads on the log of a device.
+/// An unnamed shared journal on the log of a device.
 pub fn laid_on<D: Device + Drop, K: Record>(
     alloc: Global,
     device: D,

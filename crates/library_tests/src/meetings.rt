@@ -1,4 +1,4 @@
-//! A counter, and what it was when both last met.
+//! A counter, and its value when both sides last met.
 ghost use Rattle.std.specs.Prelude.{◌≡◌, ◌≤◌};
 
 use crate::bytes::expect;
@@ -17,7 +17,6 @@ impl Since<u64> for Rises {
     ghost since = { λ met now. met ≤ now };
 }
 
-/// The counter.
 #[derive(Drop)]
 struct Counter<J: PartsName> {
     count: u64,
@@ -34,7 +33,7 @@ impl<J: PartsName> Model for Counter<J> {
     ghost invariant = { λ c. c.now ≡ c.count };
 }
 
-/// The counter as it was when both last met.
+/// The counter's value when both last met.
 #[derive(Drop)]
 struct Last<J: PartsName> {
     count: u64,
@@ -51,7 +50,7 @@ impl<J: PartsName> Model for Last<J> {
     ghost invariant = { λ c. c.met ≡ c.count };
 }
 
-/// The counter rises, and nobody else is asked.
+/// The counter rises, and the other side is not asked.
 fn rise<J: PartsName>(meeting: &Meeting<J, u64, Rises>, counter: &mut Counter<J>) {
     if counter.count < RISES {
         counter.count += 1;
@@ -59,7 +58,7 @@ fn rise<J: PartsName>(meeting: &Meeting<J, u64, Rises>, counter: &mut Counter<J>
     meeting.go_on(&mut counter.now, &counter.count);
 }
 
-/// Both meet. It answers how much the counter has risen since they last did, which is no less than nothing.
+/// Both meet. Returns by how much the counter has risen since the last time, which is never negative.
 fn meet<J: PartsName>(
     meeting: &Meeting<J, u64, Rises>,
     last: &mut Last<J>,
@@ -73,7 +72,7 @@ fn meet<J: PartsName>(
     risen
 }
 
-/// A counter that rises between two meetings: each finds how far it has risen since the other.
+/// At each meeting of a counter that rises, the other side finds how much it has risen.
 fn rises_between_meetings<J: PartsName, R: Abort>(rt: &R, unnamed: UnnamedMeeting<u64, Rises>)
     requires { unnamed ≡ J.parts }
 {

@@ -1,5 +1,4 @@
-//! Reads without a handle, over a journal of one thread and over one that threads share: each block as a handle's read would see it, and
-//! nothing noted.
+//! Reads without a handle, over a journal of one thread and a shared one: each sees the block as a handle's read would, and notes nothing.
 ghost use Rattle.std.specs.Prelude.{◌≡◌};
 
 use crate::bytes::expect;
@@ -15,10 +14,9 @@ use std::process::Abort;
 use std::sync::Wait;
 use std::test::Fail;
 
-/// The journal that is read.
 type Read = Journal<FailOnce<MemDevice>>;
 
-/// An empty log, opened on a device of which this call fails; 0 is none.
+/// An empty log, opened on a device whose call `fail` fails; 0 is none.
 fn empty(alloc: Global, fail: u64) -> Result<Opened<FailOnce<MemDevice>>, JournalError> {
     opened(alloc, FailOnce::new(formatted(alloc, 33, 64)?, fail))
 }
@@ -34,12 +32,12 @@ pub fn journal_on<D: Device + Drop, K: Record>(
     }
 }
 
-/// A journal on an empty log of a device of which this call fails.
+/// A journal on an empty log of a device whose call `fail` fails.
 fn journal(alloc: Global, fail: u64) -> Result<Read, JournalError> {
     journal_on(alloc, empty(alloc, fail)?)
 }
 
-/// The first byte of a block, as a read without a handle sees it.
+/// The first byte of a block, by a read without a handle.
 fn first(journal: &mut Read, block: u64) -> Result<u8, JournalError> {
     let mut bytes = [0xee; BLOCK_SIZE];
     if journal.block_size() != BLOCK_SIZE {
@@ -49,7 +47,7 @@ fn first(journal: &mut Read, block: u64) -> Result<u8, JournalError> {
     Ok(bytes[0])
 }
 
-/// A handle writes a byte to a block, or revokes it where the byte is 0, and stops; its transaction is asked for.
+/// A handle writes a byte to a block, or revokes it if the byte is 0, and stops. Returns its ticket.
 pub fn change<D: Device, K: Record>(
     journal: &mut Journal<D, K>,
     block: u64,
@@ -68,7 +66,6 @@ pub fn change<D: Device, K: Record>(
     Ok(ticket)
 }
 
-/// Commits a ticket's transaction.
 fn commit(journal: &mut Read, ticket: Ticket) -> Result<(), JournalError> {
     match journal.commit(ticket) {
         Ok(_) => Ok(()),
@@ -76,8 +73,8 @@ fn commit(journal: &mut Read, ticket: Ticket) -> Result<(), JournalError> {
     }
 }
 
-/// Block 9 as it is read before it is written, behind the write, while that is being committed, behind another write, and once the first one
-/// is committed; and whether its commit was under way.
+/// Block 9 before a write, after it, during its commit, after another write, and after the first commit; and whether the commit was under
+/// way.
 fn read_by_turns(journal: &mut Read) -> Result<([u8; 5], bool), JournalError> {
     let empty = first(journal, 9)?;
     let one = change(journal, 9, 0x11)?;
@@ -101,7 +98,7 @@ fn a_read_without_a_handle_sees_the_newest_copy(rt: HostRuntime) -> Result<(), F
     Ok(())
 }
 
-/// Block 9 as it is read once it is committed and once it is home, and block 10; and whether the journal has as many entries as before.
+/// Block 9 after its commit and after it is home, and block 10; and whether the journal has as many entries as before.
 fn read_committed(journal: &mut Read) -> Result<([u8; 3], bool), JournalError> {
     let one = change(journal, 9, 0x11)?;
     commit(journal, one)?;
@@ -112,7 +109,7 @@ fn read_committed(journal: &mut Read) -> Result<([u8; 3], bool), JournalError> {
     Ok((bytes, journal.entries() == before))
 }
 
-/// How many transactions are committed behind the close of a journal without open handles.
+/// How many transactions are committed after a close without open handles.
 fn closed(journal: Read) -> Option<u64> {
     if journal.has_open_handles() {
         return None;
@@ -137,7 +134,7 @@ fn a_read_without_a_handle_sees_what_is_committed_and_what_is_home(
     Ok(())
 }
 
-/// What comes of reads of a block that is not there, of one that is revoked, and of that once the revoke is committed.
+/// The results of reads of a block that does not exist, of a revoked one, and of that after the revoke's commit.
 fn read_refused(journal: &mut Read) -> Result<[Result<u8, JournalError>; 3], JournalError> {
     let beyond = first(journal, 64);
     let one = change(journal, 9, 0)?;
@@ -158,7 +155,7 @@ fn a_read_without_a_handle_is_refused(rt: HostRuntime) -> Result<(), Fail> {
     Ok(())
 }
 
-/// What comes of two reads of block 10, and whether the journal is aborted between them.
+/// The results of two reads of block 10, and whether the journal is aborted between them.
 fn read_twice(journal: &mut Read) -> (Result<u8, JournalError>, bool, Result<u8, JournalError>) {
     let once = first(journal, 10);
     let is_aborted = journal.is_aborted();
@@ -174,7 +171,7 @@ fn a_read_without_a_handle_fails_with_the_device(rt: HostRuntime) -> Result<(), 
     Ok(())
 }
 
-/// The first byte of a block, as a read without a handle sees it in a journal that threads share.
+/// The first byte of a block, by a read without a handle in a shared journal.
 fn first_shared<J: JournalName, R: Wait>(
     rt: &R,
     journal: &Shared<J, FailOnce<MemDevice>>,
@@ -188,7 +185,7 @@ fn first_shared<J: JournalName, R: Wait>(
     Ok(bytes[0])
 }
 
-/// Reads a block that home has, and one that it has not. It answers how many transactions are committed at the close.
+/// Reads a block of home and one that home lacks. Returns how many transactions are committed at the close.
 fn only_read<J: JournalName, R: Wait + Abort>(rt: &R, laid: LaidJournal<FailOnce<MemDevice>>) -> u64
     requires name { laid.name ≡ J.name }
 {

@@ -1,4 +1,4 @@
-//! The log of a journal that threads share, opened again once that is closed.
+//! The log of a shared journal, opened again after its close.
 ghost use Rattle.std.specs.Prelude.{◌≡◌};
 
 use crate::bytes::expect;
@@ -12,15 +12,14 @@ use std::process::Abort;
 use std::sync::Wait;
 use std::test::Fail;
 
-/// A block that begins with `11`, and has zeros after it.
+/// A block that begins with `11`, then zeros.
 fn beginning_with_11() -> [u8; 1024] {
     let mut bytes = [0; 1024];
     bytes[0] = 0x11;
     bytes
 }
 
-/// Starts a handle with one credit, writes block 9, restarts the handle with one credit, and stops that. It answers the transactions of
-/// both.
+/// Writes block 9 through a handle, restarts that, and stops the new one, with one credit each. Returns the transactions of both.
 fn write_and_restart<J: JournalName, D: Device, K: Record, R: Wait>(
     rt: &R,
     journal: &Journal<J, D, K>,
@@ -60,7 +59,7 @@ fn closed<J: JournalName, R: Wait + Abort>(
     parts.device
 }
 
-/// What an opening of a log finds: whether it is clean, the next number, and block 9 of home.
+/// What an opening of the log finds: whether it is clean, the next number, and block 9 of home.
 fn found(alloc: Global, device: MemDevice) -> Result<(bool, Tid, [u8; 1024]), JournalError> {
     let opened = opened(alloc, device)?;
     let (clean, next) = (opened.report().clean, opened.next());

@@ -1,5 +1,4 @@
-//! Clients in threads of their own, over a device in memory: with all that they need, held at a gate, short of room, and over a device
-//! that fails.
+//! Clients in threads of their own, over a device in memory: undisturbed, held at a gate, short of room, and over a device that fails.
 ghost use Rattle.std.specs.Prelude.{◌≡◌};
 
 mod gates;
@@ -23,7 +22,7 @@ use volume_service::{
     ClientOutcome, Gate, HandlePlan, HeldDevice, OpenGate, Outcome, Service, Touch,
 };
 
-/// Blocks of the log: a transaction has six credits at most.
+/// Blocks of the log; a transaction then has at most six credits.
 const LOG_BLOCKS: u32 = 33;
 
 /// How often two clients run.
@@ -48,7 +47,7 @@ fn one(alloc: Global, credits: u64, block: u64, byte: u8) -> Result<HandlePlan, 
     })
 }
 
-/// Two clients of two handles each, of which one revokes a block.
+/// Two clients of two handles each; one handle also revokes a block.
 fn two_clients(alloc: Global) -> Result<Vec<Vec<HandlePlan>>, AllocError> {
     let mut first = Vec::new(alloc);
     first.push(one(alloc, 1, 3, 1)?)?;
@@ -64,7 +63,7 @@ fn two_clients(alloc: Global) -> Result<Vec<Vec<HandlePlan>>, AllocError> {
     Ok(plans)
 }
 
-/// So many clients of so many handles each. A handle writes two blocks of its client's, and every other one is waited for.
+/// Clients with this many handles each. A handle writes two blocks of its client's, and every other one is waited for.
 fn many_clients(
     alloc: Global,
     clients: u64,
@@ -77,7 +76,6 @@ fn many_clients(
     Ok(plans)
 }
 
-/// So many handles of a client.
 fn many_handles(alloc: Global, client: u64, handles: u8) -> Result<Vec<HandlePlan>, AllocError> {
     let mut plan = Vec::new(alloc);
     for number in 0..handles {
@@ -91,8 +89,8 @@ fn many_handles(alloc: Global, client: u64, handles: u8) -> Result<Vec<HandlePla
     Ok(plan)
 }
 
-/// What came of clients: how many were refused something, and the last cause of it; how many handles were stopped and how many have
-/// receipts, and the greatest transaction of these; the tally; and how many transactions were committed.
+/// What clients did: how many were refused something, and the last cause; how many handles were stopped and how many have receipts, and the
+/// greatest transaction of these; the tally; and how many transactions were committed.
 #[derive(Clone, Copy, Debug, PartialEq, Eq)]
 struct Summary {
     refused: usize,
@@ -121,7 +119,7 @@ fn count<J: JournalName>(summary: Summary, client: &ClientOutcome<J, Vec<Sealed>
     summary
 }
 
-/// Runs clients over a laid journal. It answers what came of them, and the device, or why they were not run.
+/// Runs clients over an unnamed journal. Returns what they did, and the device, or why they were not run.
 fn try_run<
     J: JournalName + Send + Sync,
     D: Device + Send + Drop,
@@ -143,7 +141,6 @@ fn try_run<
     }
 }
 
-/// What came of clients, and their device.
 fn summary_of<J: JournalName, D: Device + Drop>(
     outcome: Outcome<J, D, Vec<Sealed>>,
 ) -> (Summary, D) {
@@ -167,7 +164,7 @@ fn summary_of<J: JournalName, D: Device + Drop>(
     (summary, parts.device)
 }
 
-/// Runs clients over a journal on the log of a device. It answers what came of them, and the device.
+/// Runs clients over a journal on the log of a device. Returns what they did, and the device.
 fn run_on<D: Device + Send + Drop, G: Gate + Sync, R: Threads + Wait + Sync>(
     rt: &R,
     alloc: Global,
@@ -179,7 +176,7 @@ fn run_on<D: Device + Send + Drop, G: Gate + Sync, R: Threads + Wait + Sync>(
     try_run::<Brand, _, _, _>(rt, alloc, laid, plans, gate)
 }
 
-/// Runs clients over a new log in memory. It answers what came of them.
+/// Runs clients over a new log in memory. Returns what they did.
 fn run<G: Gate + Sync, R: Threads + Wait + Sync>(
     rt: &R,
     alloc: Global,
@@ -190,12 +187,12 @@ fn run<G: Gate + Sync, R: Threads + Wait + Sync>(
     Ok(summary)
 }
 
-/// The counts of what came of clients: how many were refused something, how many handles were stopped, and how many have receipts.
+/// How many clients were refused something, how many handles were stopped, and how many have receipts.
 fn counts(summary: &Summary) -> (usize, usize, usize) {
     (summary.refused, summary.handles, summary.receipts)
 }
 
-/// What comes of the first run of two clients that does not make two to four transactions and four receipts, or leaves a credit taken.
+/// The first run of two clients that does not make two to four transactions and four receipts, or leaves a credit taken.
 fn first_wrong_run<R: Threads + Wait + Sync>(
     rt: &R,
     alloc: Global,
@@ -222,7 +219,7 @@ fn two_clients_run(rt: HostRuntime) -> Result<(), Fail> {
     Ok(())
 }
 
-/// What comes of eight clients of many handles, and whether the credits that are taken are those of entries.
+/// The counts of many clients, and whether the credits taken are those of entries.
 fn run_many<R: Threads + Wait + Sync>(
     rt: &R,
     alloc: Global,
@@ -261,7 +258,7 @@ fn two_handles_are_open_at_once(rt: HostRuntime) -> Result<(), Fail> {
     Ok(())
 }
 
-/// A handle that takes all six credits of the log, and writes as many blocks: so no other starts until its transaction is sealed.
+/// A handle that takes all six credits of the log and writes six blocks, so that no other starts until its transaction is sealed.
 fn greedy(alloc: Global, byte: u8, waits: bool) -> Result<HandlePlan, AllocError> {
     let mut touches = Vec::new(alloc);
     for block in 0..6 {
@@ -274,7 +271,7 @@ fn greedy(alloc: Global, byte: u8, waits: bool) -> Result<HandlePlan, AllocError
     })
 }
 
-/// One client with two handles of which each takes all credits.
+/// One client with two handles that each take all credits.
 fn greedy_plans(alloc: Global) -> Result<Vec<Vec<HandlePlan>>, AllocError> {
     let mut handles = Vec::new(alloc);
     handles.push(greedy(alloc, 1, false)?)?;
@@ -284,7 +281,7 @@ fn greedy_plans(alloc: Global) -> Result<Vec<Vec<HandlePlan>>, AllocError> {
     Ok(plans)
 }
 
-/// How many handles were stopped and how many have receipts, and whether the gate held a write, and gave up.
+/// How many handles were stopped and how many have receipts; and whether the gate held a write, and gave up.
 fn run_held<R: Threads + Wait + Sync>(
     rt: &R,
     alloc: Global,
@@ -300,7 +297,7 @@ fn run_held<R: Threads + Wait + Sync>(
 }
 
 /// The second handle can't start before the first one's transaction is sealed. The first write of the log is held until it has written:
-/// whoever works on the front does not wait for the device.
+/// work on the front does not wait for the device.
 #[test]
 fn a_client_writes_while_a_commit_is_held(rt: HostRuntime) -> Result<(), Fail> {
     let plans = greedy_plans(rt.alloc())?;
@@ -309,11 +306,11 @@ fn a_client_writes_while_a_commit_is_held(rt: HostRuntime) -> Result<(), Fail> {
     Ok(())
 }
 
-/// How many calls the device makes at least: those of the opening, and of 16 commits of six copies each.
+/// The device makes at least this many calls: those of the opening, and of 16 commits of six copies each.
 const FAILING_CALLS: u64 = 100;
 
-/// Whether clients over a log of which a call fails are refused with Aborted, and what is left of the device opens to all transactions of
-/// which a client has a receipt.
+/// Whether clients over a device that fails are refused with Aborted, and the crash image opens to every transaction of which a client has
+/// a receipt.
 fn fails_well<R: Threads + Wait + Sync>(
     rt: &R,
     alloc: Global,
@@ -328,12 +325,12 @@ fn fails_well<R: Threads + Wait + Sync>(
     Ok(is_told && left > u64::from(acknowledged.0))
 }
 
-/// Which transaction an opening of a device finds to be the next one.
+/// The number after the last transaction that an opening of a device finds.
 fn opened_left(alloc: Global, device: MemDevice) -> Result<u64, JournalError> {
     Ok(u64::from(opened(alloc, device)?.report().ends_at))
 }
 
-/// The first call with which that is not so, of those with which the opening does not fail.
+/// The first failing call for which that is not so, among those at which the opening does not fail.
 fn first_bad<R: Threads + Wait + Sync>(
     rt: &R,
     alloc: Global,
@@ -350,8 +347,8 @@ fn first_bad<R: Threads + Wait + Sync>(
     Ok(None)
 }
 
-/// Each call of the device fails in turn, under eight clients: each of them ends with its receipts or with Aborted, and what is left
-/// of the device opens to all transactions of which a client has a receipt.
+/// Each device call fails in turn, under eight clients. Each client ends with its receipts or with Aborted, and the crash image opens to
+/// every transaction of which a client has a receipt.
 #[test]
 fn a_device_fails_once_under_eight_clients(rt: HostRuntime) -> Result<(), Fail> {
     let plans = many_clients(rt.alloc(), 8, 6)?;

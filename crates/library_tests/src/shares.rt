@@ -10,7 +10,7 @@ use std::test::Fail;
 /// How high the number rises.
 const MOST: u64 = 1000;
 
-/// No share is above the number.
+/// No share exceeds the number.
 struct Within;
 
 impl Agreement<u64, u64> for Within {
@@ -69,9 +69,7 @@ fn rise<J: PartsName>(parts: &Parts<J, u64, u64, Within>, total: &mut Total<J>) 
     parts.go_on(&mut total.whole, &total.total);
 }
 
-/// A share takes all of it.
-///
-/// It answers what the number has risen by since the share last did, which is no less than nothing.
+/// A share takes all of the number. Returns by how much the number has risen since the share last did, which is never negative.
 fn take<J: PartsName>(
     parts: &Parts<J, u64, u64, Within>,
     total: &mut Total<J>,

@@ -1,4 +1,4 @@
-//! Notes in the tables by block, with what they come to worked out by hand.
+//! Tables by block, with answers worked out by hand.
 
 use crate::bytes::expect;
 use block_tables::{CopyTable, LastEffects, RevokeTable};
@@ -19,7 +19,7 @@ fn covered(table: &RevokeTable) -> [bool; 4] {
     ]
 }
 
-/// Of several revokes of a block the greatest counts, whatever their order.
+/// Of several revokes of a block the greatest counts, in any order.
 #[test]
 fn the_greatest_revoke_counts(rt: HostRuntime) -> Result<(), Fail> {
     let mut table = RevokeTable::new(rt.alloc());
@@ -43,7 +43,7 @@ fn newest(table: &CopyTable) -> [Option<u64>; 2] {
     [table.newest(BlockNo(5)), table.newest(BlockNo(6))]
 }
 
-/// The copy that is noted last is its block's newest.
+/// The last copy that is noted is its block's newest.
 #[test]
 fn the_last_copy_is_the_newest(rt: HostRuntime) -> Result<(), Fail> {
     let mut table = CopyTable::new(rt.alloc());
@@ -70,15 +70,14 @@ fn batch(alloc: Global, tid: u32, copied: u64, revoked: u64) -> Result<Batch, Al
     })
 }
 
-/// Makes room for the entries of a transaction, and notes them.
+/// Makes room for a transaction's entries, and notes them.
 fn hand_over(table: &mut LastEffects, batch: &Batch) -> Result<(), JournalError> {
     table.reserve(batch.entries.len())?;
     table.note(batch);
     Ok(())
 }
 
-/// Whether blocks are left to home: block 7 by what is committed below transaction 2, block 8 below 3 and 4, and block 9 below 2, 3
-/// and 4.
+/// Whether blocks are left to home: block 7 by what is committed below transaction 2, block 8 below 3 and 4, and block 9 below 2, 3 and 4.
 fn left_to_home(table: &LastEffects) -> [bool; 6] {
     [
         table.is_left_to_home(BlockNo(7), Tid(2)),
@@ -90,7 +89,7 @@ fn left_to_home(table: &LastEffects) -> [bool; 6] {
     ]
 }
 
-/// What blocks are left to home once transaction 2 copies block 8 and revokes block 9, and once transaction 3 does the opposite.
+/// Which blocks are left to home after transaction 2 copies block 8 and revokes block 9, and after transaction 3 does the opposite.
 fn noted_by_turns(alloc: Global, table: &mut LastEffects) -> Result<[[bool; 6]; 2], JournalError> {
     hand_over(table, &batch(alloc, 2, 8, 9)?)?;
     let once = left_to_home(table);
@@ -98,7 +97,7 @@ fn noted_by_turns(alloc: Global, table: &mut LastEffects) -> Result<[[bool; 6]; 
     Ok([once, left_to_home(table)])
 }
 
-/// A revoke leaves its block to home once it is committed, and a copy does not, until a later revoke of it is.
+/// A committed revoke leaves its block to home; a committed copy does not, until a later revoke is committed.
 #[test]
 fn a_committed_revoke_leaves_its_block_to_home(rt: HostRuntime) -> Result<(), Fail> {
     let told = noted_by_turns(rt.alloc(), &mut LastEffects::new(rt.alloc()))?;

@@ -19,11 +19,10 @@ use std::{fs, io};
 /// How often each thread reserves.
 const ROUNDS: u64 = 1_000_000;
 
-/// How many handles each thread has, one behind the other.
+/// How many handles each thread has, one after another.
 const HANDLES: u64 = 20;
 
-/// Reserves all credits but one over and over, and counts in `held` what is granted: never those of two at once. It answers whether
-/// that was so.
+/// Reserves all credits but one over and over, and counts the granted ones in `held`. Returns whether two never had them at once.
 fn hammer<J: JournalName, D: Device>(
     journal: &Journal<J, D>,
     mut seat: Seat<J>,
@@ -41,7 +40,7 @@ fn hammer<J: JournalName, D: Device>(
     within
 }
 
-/// Two threads reserve and give back at once. It answers whether what both held was never more than the capacity.
+/// Two threads reserve and give back at once. Returns whether they never held more than the capacity.
 fn hammer_at_once<J: JournalName + Send + Sync, D: Device + Send, R: Threads + Wait + Sync>(
     rt: &R,
     journal: &Journal<J, D>,
@@ -57,7 +56,7 @@ fn hammer_at_once<J: JournalName + Send + Sync, D: Device + Send, R: Threads + W
     first && second
 }
 
-/// Writes so many blocks from `first` on, each through a handle of its own. It answers the last handle's ticket.
+/// Writes blocks from `first` on, each through a handle of its own. Returns the last handle's ticket.
 fn write_all<J: JournalName, D: Device, R: Wait>(
     rt: &R,
     journal: &Journal<J, D>,
@@ -86,7 +85,7 @@ fn write_all<J: JournalName, D: Device, R: Wait>(
     last
 }
 
-/// Takes commit turns until the ticket's transaction is committed. It answers whether it is.
+/// Takes commit turns until the ticket's transaction is committed. Returns whether it is.
 fn commit<J: JournalName, D: Device, R: Wait>(
     rt: &R,
     journal: &Journal<J, D>,
@@ -105,7 +104,7 @@ fn commit<J: JournalName, D: Device, R: Wait>(
     false
 }
 
-/// Two threads write at once. It answers the last ticket of each.
+/// Two threads write at once. Returns the last ticket of each.
 fn write_at_once<J: JournalName + Send + Sync, D: Device + Send, R: Threads + Wait + Sync>(
     rt: &R,
     journal: &Journal<J, D>,
@@ -123,7 +122,7 @@ fn write_at_once<J: JournalName + Send + Sync, D: Device + Send, R: Threads + Wa
     }
 }
 
-/// Whether both tickets' transactions are committed. The journal's record bears out both receipts.
+/// Whether both tickets' transactions are committed, and are one; the journal's record confirms both receipts.
 fn both_stand<J: JournalName, D: Device, R: Wait>(
     rt: &R,
     journal: &Journal<J, D>,
@@ -141,7 +140,7 @@ fn both_stand<J: JournalName, D: Device, R: Wait>(
     }
 }
 
-/// The last credits that a journal can grant to one seat: all, where nobody holds any.
+/// Whether a seat can get this many credits.
 fn all_are_left<J: JournalName>(
     journal: &Journal<J, MemDevice>,
     seat: &mut Seat<J>,
@@ -156,15 +155,14 @@ fn all_are_left<J: JournalName>(
     }
 }
 
-/// All credits of the journal: a quarter of the 1,023 blocks of its ring has room for so many copies, three descriptors and a commit
-/// block.
+/// All credits of the journal: a quarter of its ring of 1,023 blocks holds this many copies, three descriptors and a commit block.
 const ALL: u64 = 251;
 
 /// The credits that the entries of both threads hold.
 const HELD: u64 = 2 * HANDLES;
 
-/// What is told while the entries of two threads hold credits: the status of a ticket, the tally, and whether one credit more than there
-/// are is left, and just those.
+/// What is seen while entries hold credits: a ticket's status, the tally, and whether one credit too many, and exactly the others, can be
+/// had.
 fn told_before<J: JournalName, R: Wait>(
     rt: &R,
     journal: &Journal<J, MemDevice>,
@@ -181,8 +179,8 @@ fn told_before<J: JournalName, R: Wait>(
     )
 }
 
-/// Commits the first ticket's transaction, in which that of the second one is. It answers whether that was done, whether all credits are
-/// left then, the status of the second ticket, and whether both stand.
+/// Commits the first ticket's transaction, which is also the second one's. Returns whether that was done, whether all credits are free, the
+/// second ticket's status, and whether both stand.
 fn told_behind<J: JournalName, R: Wait>(
     rt: &R,
     journal: &Journal<J, MemDevice>,
@@ -201,8 +199,7 @@ fn told_behind<J: JournalName, R: Wait>(
     )
 }
 
-/// Two threads reserve and give back at once, then two write at once; all of it is committed in one transaction, and the credits
-/// are back.
+/// Two threads reserve and give back at once, then write at once. All is committed in one transaction, and the credits are back.
 fn shared<J: JournalName + Send + Sync, R: Threads + Wait + Abort + Sync>(
     rt: &R,
     laid: LaidJournal<MemDevice>,
@@ -245,7 +242,7 @@ fn two_threads_share_a_journal(rt: HostRuntime) -> Result<(), Fail> {
     Ok(())
 }
 
-/// The name of the folder of the files.
+/// The folder of the files.
 const FOLDER: &str = "two_threads_test";
 
 /// Blocks of the home file.
@@ -259,7 +256,7 @@ fn two_files(rt: &HostRuntime) -> io::Result<FileDevice<UnknownContents>> {
     device_over(rt, FOLDER, 1024, &log, Some(&home))
 }
 
-/// Two threads write at once, and all of it is committed in one transaction and written home.
+/// Two threads write at once; all is committed in one transaction and written home.
 fn written<J: JournalName + Send + Sync, D: Device + Drop + Send, R: Threads + Wait + Abort + Sync>(
     rt: &R,
     laid: LaidJournal<D>,
@@ -283,7 +280,7 @@ fn written<J: JournalName + Send + Sync, D: Device + Drop + Send, R: Threads + W
     parts.device
 }
 
-/// What the home file is to hold: the blocks that the threads wrote.
+/// What the home file should hold: the blocks that the threads wrote.
 fn expected_home(rt: &HostRuntime) -> io::Result<Vec<u8>> {
     let mut home = vec![in rt.alloc(); 0; 1024 * HOME_BLOCKS]?;
     home[..1024 * 20].fill(7);
@@ -291,7 +288,7 @@ fn expected_home(rt: &HostRuntime) -> io::Result<Vec<u8>> {
     Ok(home)
 }
 
-/// Whether the home file holds that. The folder is removed.
+/// Whether it does. Removes the folder.
 fn is_home(rt: &HostRuntime) -> io::Result<bool> {
     let is_home = holds(rt, FOLDER, "home", &expected_home(rt)?)?;
     fs::remove_dir_all(rt, FOLDER)?;

@@ -1,4 +1,4 @@
-//! The command `bench` with clients in threads of their own, over a device in memory, also one of which a call fails.
+//! The command `bench` with clients in threads of their own, over a device in memory, also over one that fails.
 use crate::bytes::expect;
 use crate::logs::{formatted, opened};
 use block_device::{Device, FailOnce, MemDevice};
@@ -17,12 +17,12 @@ use std::time::Clock;
 /// How many of the device's calls fail in turn.
 const FAILING_CALLS: u64 = 150;
 
-/// An empty log of 33 blocks, which are few: there is a round each few commits.
+/// An empty log of 33 blocks: so few that there is a checkpoint round every few commits.
 fn few_blocks(alloc: Global) -> Result<MemDevice, JournalError> {
     formatted(alloc, 33, 64)
 }
 
-/// What `bench` prints of four clients on this device, and whether all was done.
+/// What `bench` prints of four clients on this device; the device comes back if all was done.
 fn said<R: Threads + Wait + Sync, C: Clock + Sync, D: Device + Send + Drop>(
     rt: &R,
     clock: &C,
@@ -47,7 +47,6 @@ fn said<R: Threads + Wait + Sync, C: Clock + Sync, D: Device + Send + Drop>(
     }
 }
 
-/// Whether the log of a device is clean.
 fn is_clean(alloc: Global, device: MemDevice) -> bool {
     match opened(alloc, device) {
         Ok(opened) => opened.report().clean,
@@ -55,7 +54,7 @@ fn is_clean(alloc: Global, device: MemDevice) -> bool {
     }
 }
 
-/// Whether clients of a new log said how long all their transactions took, and in how many commits, and left a clean log.
+/// Whether clients of a new log printed the time of all their transactions, printed the commits, and left a clean log.
 fn is_durable<R: Threads + Wait + Sync, C: Clock + Sync>(
     rt: &R,
     clock: &C,
@@ -75,7 +74,7 @@ fn is_durable<R: Threads + Wait + Sync, C: Clock + Sync>(
     ])
 }
 
-/// All transactions are durable, in no more commits than there are transactions, and the log is clean.
+/// All transactions and their commits are reported, and the log is clean.
 #[test]
 fn clients_commit_at_once(rt: HostRuntime) -> Result<(), Fail> {
     let (mut out, mut err) = (Vec::new(rt.alloc()), Vec::new(rt.alloc()));
@@ -84,7 +83,7 @@ fn clients_commit_at_once(rt: HostRuntime) -> Result<(), Fail> {
     Ok(())
 }
 
-/// Whether clients end where this call of the device fails, and the failure is told, not that the journal was then aborted.
+/// Whether clients end after this device call fails, and the message names that failure and not the abort after it.
 fn is_told<R: Threads + Wait + Sync, C: Clock + Sync>(
     rt: &R,
     clock: &C,
@@ -98,7 +97,7 @@ fn is_told<R: Threads + Wait + Sync, C: Clock + Sync>(
     Ok(has_failed && told.starts_with("jbench: refusal 2 Device\n"))
 }
 
-/// The first call of the device with which that is not so.
+/// The first device call for which that is not so.
 fn first_untold<R: Threads + Wait + Sync, C: Clock + Sync>(
     rt: &R,
     clock: &C,
@@ -112,7 +111,7 @@ fn first_untold<R: Threads + Wait + Sync, C: Clock + Sync>(
     Ok(None)
 }
 
-/// Each call of the device fails in turn: all clients end, and the failure is told, not that the journal was then aborted.
+/// Each device call fails in turn: all clients end, and the message names that failure and not the abort after it.
 #[test]
 fn a_device_fails_once_under_clients(rt: HostRuntime) -> Result<(), Fail> {
     expect(&rt, &first_untold(&rt, &rt, rt.alloc())?, &None);

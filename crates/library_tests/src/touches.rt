@@ -1,4 +1,4 @@
-//! Touches, with what they cost and leave worked out by hand.
+//! Touches, with their costs and effects worked out by hand.
 ghost use Rattle.std.specs.Prelude.{◌≡◌, false};
 
 use crate::bytes::expect;
@@ -8,8 +8,8 @@ use journal_model::{BlockNo, Entry, HandleNo, JournalError, Op, Sealed, Step, Ti
 use std::alloc::Global;
 use std::test::Fail;
 
-/// Touches of blocks by handles: each one's handle and block, the byte that it writes, or 0 for a revoke, and whether it is
-/// the first touch of its block.
+/// Touches of blocks by handles: the handle, the block, the byte that it writes or 0 for a revoke, and whether it is the block's first
+/// touch.
 const TOUCHES: [(u64, u64, u8, bool); 6] = [
     (1, 9, 0x11, true),
     (1, 5, 0x22, true),
@@ -19,8 +19,7 @@ const TOUCHES: [(u64, u64, u8, bool); 6] = [
     (2, 5, 0, false),
 ];
 
-/// The touches of handles that have one credit left each time. It answers whether just those are the first of their blocks of which that
-/// is told.
+/// Makes the touches, by handles with one credit left each time. Returns whether exactly the expected ones are first.
 fn touch_all(transaction: &mut Transaction<Vec<Sealed>>) -> Result<bool, JournalError>
     requires { transaction.old.locked ≡ false }
 {
@@ -38,7 +37,7 @@ fn touch_all(transaction: &mut Transaction<Vec<Sealed>>) -> Result<bool, Journal
     Ok(as_told)
 }
 
-/// The nth of some entries: its block, and what it shows.
+/// The nth entry: its block, and what it shows.
 fn nth(entries: &[(BlockNo, Entry)], n: usize) -> Option<(u64, Option<u8>)> {
     let (block, entry) = entries.get(n)?;
     Some((block.0, shown(Some(entry))))
@@ -53,7 +52,7 @@ fn handed_over(
     Ok([nth(entries, 0), nth(entries, 1), nth(entries, 2)])
 }
 
-/// Locks transaction 2 and seals it. It answers the record of it.
+/// Locks and seals transaction 2. Returns its record.
 fn sealed<R: Record>(alloc: Global, transaction: &mut Transaction<R>) -> Result<R, JournalError> {
     let mut record = R::new(alloc);
     record.make_room()?;
@@ -72,7 +71,7 @@ fn counts(record: &[Sealed]) -> Option<(u32, usize, usize)> {
     Some((sealed.tid.0, sealed.handles.len(), sealed.steps.len()))
 }
 
-/// Seals a transaction. It answers the counts of the record.
+/// Seals a transaction. Returns the counts of the record.
 fn sealed_counts(
     alloc: Global,
     transaction: &mut Transaction<Vec<Sealed>>,
@@ -104,7 +103,7 @@ fn the_place_stays_and_the_last_operation_decides(rt: HostRuntime) -> Result<(),
     Ok(())
 }
 
-/// How many hold the bytes of a block's copy, or none where it has no copy.
+/// How many hold the bytes of a block's copy; `None` without a copy.
 fn holders(entry: Option<&Entry>) -> Option<usize> {
     match entry? {
         Entry::Copy(copy) => Some(copy.holders()),
@@ -112,8 +111,8 @@ fn holders(entry: Option<&Entry>) -> Option<usize> {
     }
 }
 
-/// Writes block 7 once. It answers how many hold its bytes then, and once the entries are handed over, once the transaction is sealed, and
-/// once what was handed over and then the record is dropped; and the counts of the record.
+/// Writes block 7 once. Returns how many hold its bytes after the write, after the entries are handed over, after the seal, after those
+/// entries are dropped, and after the record is; and the counts of the record.
 fn held_by_turns(
     alloc: Global,
     transaction: &mut Transaction<Vec<Sealed>>,
@@ -144,7 +143,7 @@ fn a_write_copies_its_bytes_once(rt: HostRuntime) -> Result<(), Fail> {
     Ok(())
 }
 
-/// The byte that the nth write of a block writes.
+/// The byte of the nth write.
 fn byte_of(n: usize) -> u8 {
     (n % 251) as u8
 }
@@ -160,16 +159,15 @@ fn write_often<R: Record>(transaction: &mut Transaction<R>) -> Result<(), Journa
     Ok(())
 }
 
-/// What a transaction leaves of block 7: how many entries it has, what it shows of the block, and how many hold those bytes.
+/// How many entries a transaction has, what it shows of block 7, and how many hold those bytes.
 type Left = (usize, Option<u8>, Option<usize>);
 
-/// What a transaction leaves of block 7.
 fn left<R: Record>(transaction: &Transaction<R>) -> Left {
     let entry = transaction.newest(BlockNo(7));
     (transaction.len(), shown(entry), holders(entry))
 }
 
-/// Writes block 7 often, and seals that. It answers what is left of the block before, and the record.
+/// Writes block 7 often, and seals. Returns what is left of the block before the seal, and the record.
 fn written_often<R: Record>(
     alloc: Global,
     transaction: &mut Transaction<R>,
@@ -181,7 +179,6 @@ fn written_often<R: Record>(
     Ok((left, sealed(alloc, transaction)?))
 }
 
-/// Whether the step is the nth write.
 fn is_write(step: &Step, n: usize) -> bool {
     match &step.op {
         Op::Write(copy) => {
@@ -193,7 +190,7 @@ fn is_write(step: &Step, n: usize) -> bool {
     }
 }
 
-/// Whether each step of a transaction is the write that was made in its turn.
+/// Whether the steps are the writes, in order.
 fn are_writes(steps: &[Step]) -> bool {
     let mut are_writes = true;
     for (n, step) in steps.iter().enumerate() {
@@ -211,7 +208,7 @@ fn recorded(record: &[Sealed]) -> (Option<(u32, usize, usize)>, bool) {
     (counts(record), are_writes)
 }
 
-/// What is left of block 7 before and behind the seal of many writes of it, and what the record has.
+/// What is left of block 7 before and after the seal of many writes, and what the record has.
 fn recorded_often(
     alloc: Global,
     transaction: &mut Transaction<Vec<Sealed>>,
@@ -234,7 +231,7 @@ fn a_record_of_data_keeps_each_write(rt: HostRuntime) -> Result<(), Fail> {
     Ok(())
 }
 
-/// What is left of block 7 before and behind the seal of many writes of it, in a record for contracts alone.
+/// The same, in a record for contracts alone.
 fn unrecorded_often(
     alloc: Global,
     transaction: &mut Transaction<Unrecorded>,

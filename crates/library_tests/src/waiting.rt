@@ -1,4 +1,4 @@
-//! Calls that wait, while another thread takes commit turns: for credits, for a seal, for a commit, and over a device that fails.
+//! Calls that wait for credits, a seal or a commit, while another thread takes commit turns; and over a device that fails.
 ghost use Rattle.std.specs.Prelude.{◌≡◌};
 
 use crate::bytes::expect;
@@ -17,17 +17,17 @@ use std::thread::{self, Threads, join};
 /// How many turns a thread takes before it gives up.
 const TURNS: u32 = 2_000_000;
 
-/// What is made of a journal before its clients come.
+/// The state of a journal before its clients come.
 enum Before {
     /// The entries of the running transaction hold all credits.
     Full,
-    /// The running transaction has an entry, takes no further handles, and is not sealed.
+    /// The running transaction has an entry, takes no more handles, and is not sealed.
     Locked,
     /// A transaction is sealed, and the entries of the running one hold all credits.
     Sealed,
 }
 
-/// Writes so many blocks through a handle.
+/// Writes this many blocks through a handle.
 fn write_blocks<J: JournalName, D: Device, R: Wait>(
     rt: &R,
     journal: &Journal<J, D>,
@@ -43,7 +43,7 @@ fn write_blocks<J: JournalName, D: Device, R: Wait>(
     Ok(())
 }
 
-/// Writes so many blocks through a handle of its own, that waits for nobody.
+/// The same through a handle of its own, started without a wait.
 fn fill<J: JournalName, D: Device, R: Wait>(
     rt: &R,
     journal: &Journal<J, D>,
@@ -56,7 +56,7 @@ fn fill<J: JournalName, D: Device, R: Wait>(
     written
 }
 
-/// Makes this of a new journal.
+/// Brings a new journal to this state.
 fn prepare<J: JournalName, D: Device, R: Wait>(
     rt: &R,
     journal: &Journal<J, D>,
@@ -79,8 +79,8 @@ fn prepare<J: JournalName, D: Device, R: Wait>(
     }
 }
 
-/// Starts a handle with one credit, writes a block, restarts it with as many credits as there are, stops that, and waits for its receipt.
-/// It answers the transactions of both.
+/// Writes a block through a handle with one credit, restarts it with all credits, stops that, and waits for its receipt. Returns both
+/// transactions.
 fn go_through<J: JournalName, D: Device, R: Wait>(
     rt: &R,
     journal: &Journal<J, D>,
@@ -105,7 +105,7 @@ fn go_through<J: JournalName, D: Device, R: Wait>(
     }
 }
 
-/// Takes commit turns until the word is not 0. It answers whether it came to that.
+/// Takes commit turns until the word is not 0. Returns whether it came to that.
 fn take_turns<J: JournalName, D: Device, R: Wait>(
     rt: &R,
     journal: &Journal<J, D>,
@@ -122,7 +122,7 @@ fn take_turns<J: JournalName, D: Device, R: Wait>(
     false
 }
 
-/// The same, and tells that it is done.
+/// `go_through`, and then sets the word.
 fn go_through_and_tell<J: JournalName, D: Device, R: Wait>(
     rt: &R,
     journal: &Journal<J, D>,
@@ -134,7 +134,7 @@ fn go_through_and_tell<J: JournalName, D: Device, R: Wait>(
     gone
 }
 
-/// One thread goes through, while another takes turns.
+/// One thread goes through while another takes turns.
 fn go_through_beside_turns<
     J: JournalName + Send + Sync,
     D: Device + Send,
@@ -153,8 +153,8 @@ fn go_through_beside_turns<
     }
 }
 
-/// Makes this of a new journal, where a start that waits for nobody is refused then, and has a thread go through, while another takes
-/// turns. It answers what came of that, and how many transactions are committed behind the close.
+/// Brings a new journal to this state, in which a start without a wait is refused. One thread goes through while another takes turns.
+/// Returns the result of that, and how many transactions are committed after the close.
 fn waited<J: JournalName + Send + Sync, D: Device + Drop + Send, R: Threads + Wait + Abort + Sync>(
     rt: &R,
     laid: LaidJournal<D>,
@@ -181,7 +181,7 @@ fn waited<J: JournalName + Send + Sync, D: Device + Drop + Send, R: Threads + Wa
     }
 }
 
-/// What comes of waits over a device, where this was made of its journal before.
+/// The result over a device.
 fn waited_over<D: Device + Drop + Send, R: Threads + Wait + Abort + Sync>(
     rt: &R,
     alloc: Global,
@@ -192,7 +192,7 @@ fn waited_over<D: Device + Drop + Send, R: Threads + Wait + Abort + Sync>(
     Ok(waited::<Brand, _, _>(rt, laid, before))
 }
 
-/// The same over a device in memory with an empty log of 33 blocks: a transaction has six credits at most.
+/// The same over a device in memory with an empty log of 33 blocks; a transaction then has at most six credits.
 fn waited_in_memory<R: Threads + Wait + Abort + Sync>(
     rt: &R,
     alloc: Global,
@@ -201,7 +201,7 @@ fn waited_in_memory<R: Threads + Wait + Abort + Sync>(
     waited_over(rt, alloc, formatted(alloc, 33, 64)?, before)
 }
 
-/// A start locks the transaction whose entries hold the credits, and comes through behind its seal; so does a restart.
+/// A start locks the transaction whose entries hold the credits, and gets them after its seal; so does a restart.
 #[test]
 fn a_start_waits_for_credits(rt: HostRuntime) -> Result<(), Fail> {
     let told = waited_in_memory(&rt, rt.alloc(), &Before::Full)?;
@@ -217,7 +217,7 @@ fn a_start_waits_for_a_seal(rt: HostRuntime) -> Result<(), Fail> {
     Ok(())
 }
 
-/// The credits that a start waits for never come back, since the commit before fails; it is told so.
+/// The credits that a start waits for never come back, since the previous commit fails; the start is then refused.
 #[test]
 fn a_start_ends_with_the_device(rt: HostRuntime) -> Result<(), Fail> {
     let device = StopAt::new(formatted(rt.alloc(), 33, 64)?, 1);

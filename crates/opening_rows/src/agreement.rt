@@ -1,4 +1,4 @@
-//! Openings of many images, each compared with what the plain program says.
+//! Openings of many images, each compared with the plain program.
 use crate::opening::told_of;
 use crate::plain_opening::plainly_told;
 use crate::told::Told;
@@ -7,10 +7,10 @@ use log_rows::logs::Log;
 use std::alloc::{AllocError, Global};
 use std::fmt::Write;
 
-/// Why a row goes no further through its images.
+/// Why a row stops before its last image.
 #[derive(Drop)]
 pub enum Stop {
-    /// An opening tells something else than the plain program: what both tell.
+    /// An opening differs from the plain program: both results.
     Differs(String),
     /// The row has no answer.
     Row(RowError),
@@ -28,7 +28,7 @@ impl From<AllocError> for Stop {
     }
 }
 
-/// How many images had each answer, in the order in which the answers came.
+/// How many images had each answer, in the order of the first.
 #[derive(Drop)]
 pub struct Tally {
     images: u64,
@@ -46,7 +46,7 @@ impl Tally {
         }
     }
 
-    /// Adds an image with this answer and so many writes.
+    /// Adds an image with this answer and this many writes.
     pub fn add(&mut self, alloc: Global, answer: &str, writes: u64) -> Result<(), AllocError> {
         self.images = self.images.saturating_add(1);
         self.writes = self.writes.saturating_add(writes);
@@ -59,7 +59,7 @@ impl Tally {
         Ok(self.answers.push((String::from_str(alloc, answer)?, 1))?)
     }
 
-    /// A line with how many images there are and how many writes their first openings make, and one for each answer.
+    /// A line with the number of images and of their first openings' writes, and one for each answer.
     fn text(&self, alloc: Global) -> Result<String, AllocError> {
         let mut all = format!(in alloc; "{} images, writes {}\n", self.images, self.writes)?;
         for (answer, count) in &self.answers {
@@ -68,7 +68,7 @@ impl Tally {
         Ok(all)
     }
 
-    /// What is found of a row that went so through its images.
+    /// The result of a row that went through its images so.
     pub fn found(&self, alloc: Global, went: Result<(), Stop>) -> Result<String, RowError> {
         match went {
             Ok(()) => Ok(self.text(alloc)?),
@@ -78,7 +78,7 @@ impl Tally {
     }
 }
 
-/// What an opening of this log tells, where the plain program says the same; `image` names it where that is not so.
+/// The result of an opening of this log, if the plain program agrees; else both, under the name `image`.
 pub fn agreed(alloc: Global, log: &Log, image: &str) -> Result<Told, Stop> {
     let told = told_of(alloc, log)?;
     let plain = plainly_told(alloc, log)?;

@@ -8,7 +8,7 @@ use format_rows::telling::refusal_text;
 use log_rows::logs::{device_of, log_of};
 use std::alloc::Global;
 
-/// What such an opening answers, and the device behind it.
+/// The answer of such an opening, and the device after it.
 fn taken_or_refused(alloc: Global, device: MemDevice) -> Result<(String, MemDevice), RowError> {
     match open_before_damage(alloc, device) {
         Ok((opened, stopped_by)) => {
@@ -27,9 +27,9 @@ fn taken_or_refused(alloc: Global, device: MemDevice) -> Result<(String, MemDevi
     }
 }
 
-/// Openings of logs that are damaged or ahead. Given: as for `openings`. Found: a line with what `open_before_damage` answers and what
-/// it passed over, a line with what `open` answers right behind it, where power went away once more in between, each home block that
-/// is then not zeros, and how many writes the first one made.
+/// Openings of logs that are damaged or ahead. Given: as for `openings`. Found: a line with the answer of `open_before_damage` and what it
+/// passed over; a line with the answer of an `open` after one more loss of power; each home block that is then not zeros; and the writes of
+/// the first opening.
 pub fn openings_before_damage(alloc: Global, given: &str) -> Result<String, RowError> {
     let (taken, device) = taken_or_refused(alloc, device_of(alloc, &log_of(alloc, given)?)?)?;
     let writes = device.writes();

@@ -1,4 +1,4 @@
-//! Rows of the device calls by which an opening changes what a device holds, and the device that notes them.
+//! Rows of the device calls by which an opening changes a device, and the device that notes them.
 ghost use Rattle.std.specs.Prelude.{◌≡◌};
 
 use block_device::{Device, DeviceFault};
@@ -9,7 +9,7 @@ use recovery::open;
 use std::alloc::{AllocError, Global};
 use std::fmt::Write;
 
-/// A device call that changes what a device holds.
+/// A device call that changes a device.
 #[derive(Clone, Copy)]
 enum Call {
     Write(Area, u64),
@@ -28,7 +28,7 @@ pub(crate) struct NotedCalls<D> {
 }
 
 impl<D: Device + Drop> NotedCalls<D> {
-    /// A device over this one, of which no call is noted yet.
+    /// A device over this one, without a noted call.
     pub(crate) fn new(device: D) -> Self
         ensures { result.device ≡ device }
     {
@@ -39,18 +39,18 @@ impl<D: Device + Drop> NotedCalls<D> {
         }
     }
 
-    /// The device behind it.
+    /// The device inside.
     pub(crate) fn into_inner(self) -> D
         ensures { result ≡ self.device }
     {
         self.device
     }
 
-    /// The lines of the calls that were noted.
+    /// The lines of the noted calls.
     ///
     /// # Errors
     ///
-    /// `Unread` where there are more than can be noted; `Memory`.
+    /// `Unread`: there are more than can be noted. `Memory`.
     pub(crate) fn text(&self, alloc: Global) -> Result<String, RowError> {
         if self.count > MOST_CALLS {
             return Err(RowError::Unread);
@@ -64,7 +64,6 @@ impl<D: Device + Drop> NotedCalls<D> {
 }
 
 impl<D: Device> NotedCalls<D> {
-    /// Notes a call.
     fn note(&mut self, call: Call)
         ensures { self.new.device ≡ self.old.device }
     {
@@ -103,7 +102,6 @@ impl<D: Device> Device for NotedCalls<D> {
     }
 }
 
-/// The name of an area.
 fn name_of(area: Area) -> &'static str {
     match area {
         Area::Log => "log",
@@ -111,7 +109,6 @@ fn name_of(area: Area) -> &'static str {
     }
 }
 
-/// Adds the line of a call.
 fn add_call(told: &mut String, call: Call) -> Result<(), AllocError> {
     match call {
         Call::Write(area, n) => writeln!(told, "write {} {n}", name_of(area)),
@@ -119,8 +116,8 @@ fn add_call(told: &mut String, call: Call) -> Result<(), AllocError> {
     }
 }
 
-/// Device calls of openings. Given: a log, on a device that lost power with it and whose home is zeros. Found: a line for each
-/// write and each flush that the opening makes, in their order.
+/// Device calls of openings. Given: a log, on a device that lost power with it and whose home is zeros. Found: a line for each write and
+/// each flush of the opening, in order.
 pub fn opening_calls(alloc: Global, given: &str) -> Result<String, RowError> {
     let device = NotedCalls::new(device_of(alloc, &log_of(alloc, given)?)?);
     match open(alloc, device) {

@@ -1,4 +1,4 @@
-//! Rows of openings of one log in which single bytes are changed.
+//! Rows of openings of one log with single changed bytes.
 use crate::agreement::{Stop, Tally, agreed};
 use format_rows::RowError;
 use format_rows::words::{cut, hex_bytes, next_word, no_word, series, value_of};
@@ -6,7 +6,7 @@ use journal_model::{Block, Items};
 use log_rows::logs::{Log, block_at, log_of};
 use std::alloc::Global;
 
-/// Which bytes are changed: those of these blocks at these places, each to each of these values in turn.
+/// Which bytes are changed: each of these bytes of these blocks, to each of these values in turn.
 #[derive(Drop)]
 struct Changes {
     blocks: (u64, u64),
@@ -14,7 +14,7 @@ struct Changes {
     values: Vec<u8>,
 }
 
-/// The changes that a line as `blocks=0..32 bytes=0..63 values=00ff` gives.
+/// The changes of a line like `blocks=0..32 bytes=0..63 values=00ff`.
 fn changes_of(alloc: Global, line: &str) -> Result<Changes, RowError> {
     let mut words = line.split_whitespace();
     let blocks = series(value_of(next_word(&mut words)?, "blocks")?)?;
@@ -48,7 +48,7 @@ fn changed(alloc: Global, log: &Log, (place, at): (u64, u64), value: u8) -> Resu
     with_block(alloc, log, place, bytes)
 }
 
-/// Opens the images in which one byte is changed.
+/// Opens the images with one changed byte.
 fn change_byte(
     alloc: Global,
     log: &Log,
@@ -65,7 +65,7 @@ fn change_byte(
     Ok(())
 }
 
-/// Opens the images in which a byte of one block is changed.
+/// Opens the images with a changed byte in one block.
 fn change_block(
     alloc: Global,
     log: &Log,
@@ -89,11 +89,10 @@ fn change_all(alloc: Global, log: &Log, changes: &Changes, tally: &mut Tally) ->
     Ok(())
 }
 
-/// Openings of changed logs. Given: a line as `blocks=0..32 bytes=0..63 values=00ff`, and a log, of which each of these bytes
-/// of each of these blocks gets each of these values in turn. Found: how many images there are, how many writes their openings
-/// make, and how often each answer comes. The first image whose opening does not tell what the plain program says of it is
-/// found in their place: a refusal comes without a write, and comes again; behind any other opening a second is clean and writes
-/// nothing.
+/// Openings of changed logs. Given: a line like `blocks=0..32 bytes=0..63 values=00ff`, and a log; each of these bytes of each of these
+/// blocks gets each value in turn. Found: the number of images, the writes of their openings, and how often each answer comes. If an
+/// opening differs from the plain program, its image is found instead. (The plain program says: a refusal writes nothing, and comes again;
+/// after any other opening a second is clean and writes nothing.)
 pub fn changed_bytes(alloc: Global, given: &str) -> Result<String, RowError> {
     let (line, spelled) = cut(given, "\n")?;
     let changes = changes_of(alloc, line)?;

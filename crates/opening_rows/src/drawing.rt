@@ -1,9 +1,9 @@
 //! Draws logs as texts, as `logs` spells them.
 //!
-//! A log has 17 to 33 blocks and up to 15 home blocks. Copies, commit blocks and zeros of older days stand in its area. Of
-//! up to seven transactions each has up to three pieces, as far as the ring has room. Bytes of some blocks are changed then, a
-//! block with a number near the log's is put into some ring, and in some superblocks a field is wrong. A wide log has block numbers
-//! of 64 bits, and is drawn as another one is. `bench/openings.py` draws the same logs from the same seed.
+//! A log has 17 to 33 blocks, and up to 15 home blocks. Its area has old copies, commit blocks and zeros. It has up to seven transactions
+//! of up to three pieces each, as far as the ring has room. Then bytes of some blocks are changed, some rings get a block with a number
+//! near the log's, and some superblocks a wrong field. A wide log has block numbers of 64 bits, and is drawn in the same way.
+//! `bench/openings.py` draws the same logs from the same seed.
 ghost use Rattle.std.specs.Prelude.{◌<◌};
 
 use rand_core::{Rng, SeedableRng};
@@ -11,7 +11,7 @@ use rand_xoshiro::SplitMix64;
 use std::alloc::{AllocError, Global};
 use std::fmt::Write;
 
-/// Numbers that a seed gives, one after the other.
+/// Numbers from a seed, one after another.
 #[derive(Drop)]
 pub struct Draws {
     generator: SplitMix64,
@@ -25,7 +25,7 @@ impl Draws {
         }
     }
 
-    /// The next number, below this one.
+    /// The next number, below `end`.
     fn below(&mut self, end: u64) -> u64
         requires { 0 < end }
         ensures { result < end }
@@ -33,7 +33,7 @@ impl Draws {
         self.generator.next_u64() % end
     }
 
-    /// True once in so many times.
+    /// True once in `times` times.
     fn once_in(&mut self, times: u64) -> bool
         requires { 0 < times }
     {
@@ -44,7 +44,7 @@ impl Draws {
 /// The measures of a log.
 #[derive(Clone, Copy)]
 struct Measures {
-    /// The first block of the ring, and the one behind its last.
+    /// The first block of the ring, and the one after its last.
     first: u64,
     maxlen: u64,
     /// Blocks of the log's area.
@@ -59,17 +59,17 @@ struct Measures {
     wide: bool,
 }
 
-/// A log that is drawn.
+/// A drawn log.
 #[derive(Drop)]
 pub struct RandomLog {
     measures: Measures,
-    /// How many blocks of the ring were written from where the log begins.
+    /// How many blocks of the ring were written, from the log's start on.
     used: u64,
     /// The words of each block.
     blocks: Vec<String>,
 }
 
-/// A number that a log begins with: a small one, or one near those at which numbers end.
+/// A number for a log's start: a small one, or one near the end of the numbers.
 fn draw_sequence(draws: &mut Draws) -> u64 {
     match draws.below(16) {
         0 => 0xffff_fffc + draws.below(4),
@@ -79,7 +79,7 @@ fn draw_sequence(draws: &mut Draws) -> u64 {
 }
 
 impl Measures {
-    /// Measures within their limits, of a log whose block numbers have 64 bits or 32.
+    /// Measures within their limits, for block numbers of 64 bits or 32.
     fn draw(draws: &mut Draws, wide: bool) -> Measures {
         let maxlen = 17 + draws.below(17);
         let first = 1 + draws.below(maxlen - 16);
@@ -98,12 +98,12 @@ impl Measures {
         }
     }
 
-    /// The number of four bytes that is so much more than the log's first. Behind the greatest comes 0.
+    /// The log's first number plus `more`, in four bytes; 0 follows the greatest.
     fn number(&self, more: u64) -> u64 {
         self.sequence.saturating_add(more) % 0x1_0000_0000
     }
 
-    /// The place of a position, which counts blocks of the ring from where the log begins.
+    /// The place of a position, which counts ring blocks from the log's start.
     fn place(&self, position: u64) -> usize {
         let ring = self.maxlen.saturating_sub(self.first).max(1);
         let begin = self.start.saturating_sub(self.first);
@@ -112,7 +112,7 @@ impl Measures {
     }
 }
 
-/// The words of a copy: some bytes at its front and one further behind, mostly near; zeros; or what a log block begins with.
+/// The words of a copy: a few bytes at its front and one further on, mostly near; zeros; or the beginning of a log block.
 fn draw_copy(alloc: Global, draws: &mut Draws, measures: &Measures) -> Result<String, AllocError> {
     match draws.below(40) {
         0 => format!(in alloc; "commit={}", measures.number(draws.below(3))),
@@ -130,7 +130,7 @@ fn draw_copy(alloc: Global, draws: &mut Draws, measures: &Measures) -> Result<St
     }
 }
 
-/// The words of what stands at a place before the log is written. Where no number is looked at it is a great one.
+/// The words of a block before the log is written. Outside the ring its number may be a great one.
 fn draw_old_block(
     alloc: Global,
     draws: &mut Draws,
@@ -150,7 +150,6 @@ fn draw_old_block(
     }
 }
 
-/// The words of all blocks before the log is written.
 fn draw_old_blocks(
     alloc: Global,
     draws: &mut Draws,
@@ -163,7 +162,7 @@ fn draw_old_blocks(
     Ok(blocks)
 }
 
-/// A byte: no bit, all bits, one bit or any.
+/// A byte with no bit, all bits, one bit or any bits.
 fn draw_byte(draws: &mut Draws) -> u64 {
     match draws.below(4) {
         0 => 0,
@@ -173,7 +172,7 @@ fn draw_byte(draws: &mut Draws) -> u64 {
     }
 }
 
-/// The number of a home block; once in a while there is no such block.
+/// The number of a home block; sometimes home lacks it.
 fn draw_home_block(draws: &mut Draws, measures: &Measures) -> u64 {
     let block = draws.below(measures.home.max(1));
     if draws.once_in(64) {
@@ -183,7 +182,6 @@ fn draw_home_block(draws: &mut Draws, measures: &Measures) -> u64 {
     }
 }
 
-/// The words of a revoke block.
 fn draw_revoke_block(
     alloc: Global,
     draws: &mut Draws,
@@ -199,7 +197,6 @@ fn draw_revoke_block(
     Ok(words)
 }
 
-/// Adds the words of a tag.
 fn add_tag(
     words: &mut String,
     draws: &mut Draws,
@@ -216,7 +213,6 @@ fn add_tag(
     }
 }
 
-/// The words of a descriptor with so many tags.
 fn draw_descriptor(
     alloc: Global,
     draws: &mut Draws,
@@ -231,7 +227,7 @@ fn draw_descriptor(
     Ok(words)
 }
 
-/// The words of a wrong field of a superblock.
+/// The words of a wrong superblock field.
 fn wrong_field(
     alloc: Global,
     draws: &mut Draws,
@@ -251,7 +247,6 @@ fn wrong_field(
     String::from_str(alloc, text)
 }
 
-/// The words of a superblock.
 fn draw_superblock(
     alloc: Global,
     draws: &mut Draws,
@@ -275,7 +270,7 @@ fn draw_superblock(
 }
 
 impl RandomLog {
-    /// The next log of these draws, whose block numbers have 64 bits or 32.
+    /// The next log of these draws, with block numbers of 64 bits or 32.
     pub fn draw(alloc: Global, draws: &mut Draws, wide: bool) -> Result<RandomLog, AllocError> {
         let measures = Measures::draw(draws, wide);
         let mut log = RandomLog {
@@ -300,7 +295,7 @@ impl RandomLog {
         }
     }
 
-    /// Writes the next block of the log, where the ring has room.
+    /// Writes the next block of the log, if the ring has room.
     fn write(&mut self, words: String) {
         let measures = self.measures;
         let used = self.used;
@@ -361,7 +356,7 @@ impl RandomLog {
         Ok(())
     }
 
-    /// Changes a byte at the front of a block that was written, or that stands behind these.
+    /// Changes a byte at the front of a written block or of one soon after these.
     fn change_byte(&mut self, draws: &mut Draws) -> Result<(), AllocError> {
         let (measures, used) = (self.measures, self.used);
         let place = measures.place(draws.below(used.saturating_add(2)));
@@ -373,7 +368,7 @@ impl RandomLog {
         }
     }
 
-    /// The text that spells it.
+    /// The text of the log.
     pub fn text(&self, alloc: Global) -> Result<String, AllocError> {
         let Measures {
             area,

@@ -12,13 +12,13 @@ use std::fmt::Write;
 /// More reads of the log than an opening of a row's log makes.
 const MOST_READS: u64 = 10_000;
 
-/// A device of which only the first reads of the log are honest: each one behind them finds zeros, whatever stands there.
+/// A device whose first reads of the log are correct; each later one finds zeros.
 #[derive(Drop)]
 struct Forgetful<D> {
     device: D,
-    /// How many reads of the log are honest from now on.
+    /// How many more reads of the log are correct.
     honest_reads: u64,
-    /// One was not.
+    /// Whether a read was wrong.
     has_forgotten: bool,
 }
 
@@ -58,10 +58,10 @@ impl<D: Device> Device for Forgetful<D> {
     }
 }
 
-/// Openings of a device that forgets its log while it is read. Given: as for `openings`. Found: each way in which they go, where
-/// the first 0, 1, 2 and so on of the reads of the log are honest and each one behind them finds zeros, on a line: what the
-/// opening answers, what one of the same device answers whose reads are honest, each home block that is then not zeros, and how many
-/// writes both made. The last line is of an opening of which all reads are honest.
+/// Openings of a device that forgets its log. Given: as for `openings`. Found: a line for each way in which they go, with the first 0, 1, 2
+/// and so on reads of the log correct and zeros after that. A line has the answer of the opening, the answer of one with correct reads on
+/// the same device, each home block that is then not zeros, and the writes of both. The last line is of an opening with correct reads
+/// alone.
 pub fn forgetful_openings(alloc: Global, given: &str) -> Result<String, RowError> {
     let log = log_of(alloc, given)?;
     let mut all = String::new(alloc);
@@ -84,7 +84,7 @@ pub fn forgetful_openings(alloc: Global, given: &str) -> Result<String, RowError
     Err(RowError::Unread)
 }
 
-/// What an opening of such a device answers, what one finds whose reads are honest, and whether the first had one that was not.
+/// The line of such an opening, and whether one of its reads was wrong.
 fn forgetful_opening(
     alloc: Global,
     device: Forgetful<MemDevice>,

@@ -1,7 +1,7 @@
-//! What is done with rows of openings: of one log, of each that differs from it in a byte, and of random ones; and with rows of upgrades.
+//! Does what rows of openings and of upgrades say: openings of one log, of each that differs from it in a byte, and of random ones.
 //!
-//! A row gives a text and says what text is wanted. Each kind of rows is a function here, as in `log_rows`, whose module `logs`
-//! says how logs are spelled in every row. Openings of many logs are compared with what the plain program finds.
+//! A row gives a text, and the text that is wanted. Each kind of rows is a function here, as in `log_rows`, whose module `logs` says how
+//! rows spell logs. Openings of many logs are compared with the plain program.
 #![tactic(auto)]
 
 mod agreement;

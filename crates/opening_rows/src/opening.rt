@@ -12,7 +12,6 @@ use std::fmt::Write;
 /// More calls than an opening of a row's log makes.
 const MOST_CALLS: u64 = 10_000;
 
-/// The bytes of a home block.
 fn read_home(alloc: Global, device: &mut MemDevice, block: u64) -> Result<Vec<u8>, RowError> {
     if block >= device.blocks(Area::Home) {
         return Err(RowError::Unread);
@@ -31,12 +30,11 @@ pub(crate) fn home_text(alloc: Global, device: &mut MemDevice) -> Result<String,
     Ok(told)
 }
 
-/// The line of an opening.
 fn opened_text<D: Device>(alloc: Global, opened: &Opened<D>) -> Result<String, RowError> {
     report_text(alloc, opened.report(), u64::from(opened.next().0))
 }
 
-/// What an opening answers, and the device behind it.
+/// The answer of an opening, and the device after it.
 pub(crate) fn opened_or_refused<D: Device + Drop>(
     alloc: Global,
     device: D,
@@ -47,7 +45,7 @@ pub(crate) fn opened_or_refused<D: Device + Drop>(
     }
 }
 
-/// What is told of the opening of a log, on a device that lost power with it and whose home is zeros.
+/// The result of opening a log, on a device that lost power with it and whose home is zeros.
 pub fn told_of(alloc: Global, log: &Log) -> Result<Told, RowError> {
     let (answer, device) = opened_or_refused(alloc, device_of(alloc, log)?)?;
     let writes = device.writes();
@@ -61,15 +59,15 @@ pub fn told_of(alloc: Global, log: &Log) -> Result<Told, RowError> {
     })
 }
 
-/// Openings. Given: a log, on a device that lost power with it and whose home is zeros. Found: a line with what the opening
-/// answers, each home block that is not zeros where power goes away once more right behind it, and how many writes it made.
+/// Openings. Given: a log, on a device that lost power with it and whose home is zeros. Found: a line with the opening's answer, each home
+/// block that is not zeros after one more loss of power, and the opening's writes.
 pub fn openings(alloc: Global, given: &str) -> Result<String, RowError> {
     let told = told_of(alloc, &log_of(alloc, given)?)?;
     Ok(format!(in alloc; "{}{}\nwrites {}", told.answer, told.home, told.writes)?)
 }
 
-/// Openings once more. Given: as for `openings`. Found: what the first opening answers, and behind that what `openings` finds of
-/// another one, behind a loss of power right behind the first; its writes are its own.
+/// Second openings. Given: as for `openings`. Found: the answer of the first opening, and then what `openings` finds of a second one, after
+/// a loss of power right after the first; the writes are the second one's.
 pub fn second_openings(alloc: Global, given: &str) -> Result<String, RowError> {
     let told = told_of(alloc, &log_of(alloc, given)?)?;
     Ok(format!(in alloc;
@@ -78,9 +76,9 @@ pub fn second_openings(alloc: Global, given: &str) -> Result<String, RowError> {
     )?)
 }
 
-/// Openings of which each call fails in turn. Given: as for `openings`. Found: each way in which they go, in the order of the
-/// calls that fail, on a line: what the opening answers, what one right behind it of the same device answers, each home block that
-/// is then not zeros, and how many writes both made. The last line is of an opening of which no call fails.
+/// Openings of which each call fails in turn. Given: as for `openings`. Found: a line for each way in which they go, in the order of the
+/// failing calls: the answer of the opening, the answer of a second one right after it, each home block that is then not zeros, and the
+/// writes of both. The last line is of an opening without a failure.
 pub fn failed_openings(alloc: Global, given: &str) -> Result<String, RowError> {
     let log = log_of(alloc, given)?;
     let mut all = String::new(alloc);
@@ -99,8 +97,7 @@ pub fn failed_openings(alloc: Global, given: &str) -> Result<String, RowError> {
     Err(RowError::Unread)
 }
 
-/// What an opening of a device of which a call may fail answers, what one right behind it finds, and how many calls the first
-/// one made.
+/// The line of an opening of a device whose call may fail, and how many calls it made.
 fn failed_opening(alloc: Global, device: FailOnce<MemDevice>) -> Result<(String, u64), RowError> {
     let (first, device) = opened_or_refused(alloc, device)?;
     let calls = device.calls();

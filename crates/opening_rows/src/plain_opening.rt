@@ -1,4 +1,4 @@
-//! What an opening has to tell of a log, by the plain program: it reads the chain and its damage, and finds the newest copies.
+//! What an opening must answer for a log, by the plain program: it reads the chain and its damage, and finds the newest copies.
 ghost use Rattle.std.specs.Prelude.{◌<◌, ◌≤◌};
 
 use crate::told::{Told, add_home, report_text};
@@ -36,11 +36,11 @@ impl From<AllocError> for NotOpened {
     }
 }
 
-/// What stands in a log that is not refused.
+/// The contents of a log that is not refused.
 #[derive(Drop)]
 struct Found {
     is_clean: bool,
-    /// The number behind the last complete transaction.
+    /// The number after the last complete transaction.
     end: u64,
     texts: Items<Text>,
 }
@@ -54,7 +54,7 @@ fn area_of(alloc: Global, log: &Log) -> Result<Items<Block>, AllocError> {
     Ok(blocks)
 }
 
-/// The blocks of the ring, in their order from where the log begins.
+/// The blocks of the ring, in order from the log's start.
 fn lap_of(alloc: Global, area: &[Block], fields: &Super) -> Result<Items<Block>, AllocError> {
     let start = fields.s_start as usize;
     let mut lap = Items::new(alloc);
@@ -63,7 +63,7 @@ fn lap_of(alloc: Global, area: &[Block], fields: &Super) -> Result<Items<Block>,
     Ok(lap)
 }
 
-/// Adds the blocks from one place to before another.
+/// Adds the blocks from one place up to another.
 fn push_blocks(
     lap: &mut Items<Block>,
     area: &[Block],
@@ -75,7 +75,7 @@ fn push_blocks(
     Ok(())
 }
 
-/// The place of the block that stands behind so many of the ring, counted from where the log begins.
+/// The place of the ring block that `behind` others precede, counted from the log's start.
 fn place_of(fields: &Super, behind: usize) -> u64 {
     let before_end = u64::from(fields.s_maxlen.saturating_sub(fields.s_start));
     let behind = behind as u64;
@@ -86,7 +86,7 @@ fn place_of(fields: &Super, behind: usize) -> u64 {
     }
 }
 
-/// How many bytes a block number of a log with this superblock has.
+/// How many bytes a block number of this log has.
 fn number_bytes(fields: &Super) -> usize
     ensures some { 0 < result }
     ensures few { result ≤ 8 }
@@ -94,7 +94,7 @@ fn number_bytes(fields: &Super) -> usize
     if fields.has_wide_numbers() { 8 } else { 4 }
 }
 
-/// The complete transactions of a log. A malformed block behind them refuses it.
+/// The complete transactions of a log. A malformed block after them refuses it.
 fn texts_of(
     alloc: Global,
     log: &Log,
@@ -111,7 +111,7 @@ fn texts_of(
     Ok(chain(alloc, size, bytes, home, number, lap.as_slice())?)
 }
 
-/// Whether a block begins as one of the log's own, with a sequence above this.
+/// Whether a block begins as one of the log's own, with a sequence above `end`.
 fn is_ahead(block: &Block, end: u64) -> bool {
     let bytes = block.bytes();
     if bytes.len() < 12 {
@@ -123,7 +123,7 @@ fn is_ahead(block: &Block, end: u64) -> bool {
     }
 }
 
-/// No block of the ring is ahead of the end.
+/// Fails if a block of the ring is ahead of the end.
 fn none_ahead(area: &[Block], fields: &Super, end: u64) -> Result<(), JournalError> {
     for place in fields.s_first..fields.s_maxlen {
         if let Some(block) = area.get(place as usize)
@@ -135,7 +135,7 @@ fn none_ahead(area: &[Block], fields: &Super, end: u64) -> Result<(), JournalErr
     Ok(())
 }
 
-/// What stands in a log, or why it is refused.
+/// The contents of a log, or why it is refused.
 fn find(alloc: Global, log: &Log) -> Result<Found, NotOpened> {
     let area = area_of(alloc, log)?;
     let front = area
@@ -161,7 +161,7 @@ fn find(alloc: Global, log: &Log) -> Result<Found, NotOpened> {
     })
 }
 
-/// The line of each home block that gets a copy that is not zeros, and how many get one.
+/// The line of each home block whose newest copy is not zeros, and how many blocks have a copy.
 fn home_of(alloc: Global, log: &Log, texts: &[Text]) -> Result<(String, u64), RowError> {
     let mut told = String::new(alloc);
     let mut count = 0u64;
@@ -174,7 +174,7 @@ fn home_of(alloc: Global, log: &Log, texts: &[Text]) -> Result<(String, u64), Ro
     Ok((told, count))
 }
 
-/// What a second opening answers behind one that left the log clean, with this number before that of the next transaction.
+/// The answer of a second opening after one that left a clean log with this number.
 fn again_of(alloc: Global, limit: u64) -> Result<String, RowError> {
     if limit < u64::from(GREATEST_NUMBER) {
         report_text(alloc, clean_report(limit), limit.saturating_add(1))
@@ -183,7 +183,7 @@ fn again_of(alloc: Global, limit: u64) -> Result<String, RowError> {
     }
 }
 
-/// What is reported of a clean log.
+/// The report of a clean log.
 fn clean_report(ends_at: u64) -> Report {
     Report {
         clean: true,
@@ -192,7 +192,7 @@ fn clean_report(ends_at: u64) -> Report {
     }
 }
 
-/// What is told of a clean log. Nothing is written.
+/// The result for a clean log: nothing is written.
 fn told_clean(alloc: Global, end: u64) -> Result<Told, RowError> {
     Ok(Told {
         answer: report_text(alloc, clean_report(end), end.saturating_add(1))?,
@@ -203,7 +203,7 @@ fn told_clean(alloc: Global, end: u64) -> Result<Told, RowError> {
     })
 }
 
-/// What is told of a log that is not clean: each block with a live copy is written once, and then the superblock.
+/// The result for a log that is not clean: each block with a live copy is written once, and then the superblock.
 fn told_recovered(alloc: Global, log: &Log, end: u64, texts: &[Text]) -> Result<Told, RowError> {
     let next = end.saturating_add(1);
     let (home, count) = home_of(alloc, log, texts)?;
@@ -221,7 +221,7 @@ fn told_recovered(alloc: Global, log: &Log, end: u64, texts: &[Text]) -> Result<
     })
 }
 
-/// What is told of a refusal: nothing is written, and another opening is refused as well.
+/// The result for a refusal: nothing is written, and a second opening is refused as well.
 fn told_refusal(alloc: Global, refusal: JournalError) -> Result<Told, RowError> {
     Ok(Told {
         answer: refusal_text(alloc, refusal)?,
@@ -232,7 +232,7 @@ fn told_refusal(alloc: Global, refusal: JournalError) -> Result<Told, RowError> 
     })
 }
 
-/// What an opening has to tell of a log on a device whose home is zeros.
+/// What an opening must answer for a log on a device whose home is zeros.
 pub fn plainly_told(alloc: Global, log: &Log) -> Result<Told, RowError> {
     match find(alloc, log) {
         Ok(found) if found.is_clean => told_clean(alloc, found.end),

@@ -14,7 +14,7 @@ fn plan_text(alloc: Global, plan: Plan) -> Result<String, RowError> {
     Ok(format!(in alloc; "{told} blocks={}", plan.blocks)?)
 }
 
-/// The line of a plan, and what it would pass over.
+/// The line of a plan, with what it would pass over.
 fn plan_in_spite_of(
     alloc: Global,
     plan: Plan,
@@ -30,8 +30,8 @@ fn plan_in_spite_of(
     }
 }
 
-/// What openings would do. Given: as for `openings`. Found: a line with what `plan_opening` answers, a line with what
-/// `plan_before_damage` answers and would pass over, and how many writes both made.
+/// What openings would do. Given: as for `openings`. Found: a line with the answer of `plan_opening`, a line with that of
+/// `plan_before_damage` and what it would pass over, and the writes of both.
 pub fn plans(alloc: Global, given: &str) -> Result<String, RowError> {
     let mut device = device_of(alloc, &log_of(alloc, given)?)?;
     let opening = match plan_opening(alloc, &mut device) {

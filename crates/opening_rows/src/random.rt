@@ -1,4 +1,4 @@
-//! Rows of openings of logs that are drawn: well formed, damaged, and with any superblock.
+//! Rows of openings of drawn logs: well formed, damaged, and with any superblock.
 use crate::agreement::{Stop, Tally, agreed};
 use crate::drawing::{Draws, RandomLog};
 use format_rows::RowError;
@@ -6,7 +6,7 @@ use format_rows::words::{split_width, values};
 use log_rows::logs::log_of;
 use std::alloc::Global;
 
-/// The name of an answer: of a refusal its number and its name without a place, else its first word.
+/// The name of an answer: the number and name of a refusal without a place, else the first word.
 fn name_of(answer: &str) -> &str {
     let words = if answer.starts_with("refusal") { 3 } else { 1 };
     match answer.match_indices(' ').nth(words - 1) {
@@ -15,7 +15,7 @@ fn name_of(answer: &str) -> &str {
     }
 }
 
-/// Draws an image, whose block numbers have 64 bits or 32, and opens it.
+/// Draws an image, with block numbers of 64 bits or 32, and opens it.
 fn open_one(alloc: Global, draws: &mut Draws, wide: bool, tally: &mut Tally) -> Result<(), Stop> {
     let spelled = RandomLog::draw(alloc, draws, wide)?.text(alloc)?;
     let log = log_of(alloc, spelled.as_str())?;
@@ -23,7 +23,6 @@ fn open_one(alloc: Global, draws: &mut Draws, wide: bool, tally: &mut Tally) -> 
     Ok(tally.add(alloc, name_of(told.answer.as_str()), told.writes)?)
 }
 
-/// Draws so many images and opens them.
 fn open_all(
     alloc: Global,
     draws: &mut Draws,
@@ -37,9 +36,9 @@ fn open_all(
     Ok(())
 }
 
-/// Openings of random logs. Given: `seed=N images=N`, and `wide` where block numbers have 64 bits. Found: how many images there are,
-/// how many writes their openings make, and how often each answer comes, without places. The first image whose opening does not tell what the plain program says of
-/// it is found in their place, as a log that a row of another kind may give.
+/// Openings of random logs. Given: `seed=N images=N`, and `wide` for block numbers of 64 bits. Found: the number of images, the writes of
+/// their openings, and how often each answer comes, without places. If an opening differs from the plain program, its image is found
+/// instead, as a log for rows of other kinds.
 pub fn random_logs(alloc: Global, given: &str) -> Result<String, RowError> {
     let (given, wide) = split_width(given);
     let [seed, images] = values::<2>(given, "seed images")?;

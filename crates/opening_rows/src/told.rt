@@ -1,27 +1,27 @@
-//! What is told of an opening, by whoever says it.
+//! The result of an opening, by the library or by the plain program.
 use format_rows::RowError;
 use format_rows::telling::add_bytes;
 use recovery::Report;
 use std::alloc::{AllocError, Global};
 use std::fmt::Write;
 
-/// What is told of the opening of a log, of a loss of power right behind it, and of another opening behind that.
+/// The result of opening a log, losing power right after, and opening it again.
 #[derive(Drop)]
 pub struct Told {
-    /// What the opening answers.
+    /// The answer of the first opening.
     pub answer: String,
     /// How many writes it makes.
     pub writes: u64,
-    /// What the other one answers.
+    /// The answer of the second opening.
     pub again: String,
     /// How many writes that makes.
     pub writes_again: u64,
-    /// A line for each home block behind both that is not zeros.
+    /// A line for each home block that is not zeros after both.
     pub home: String,
 }
 
 impl Told {
-    /// Whether another says the same.
+    /// Whether both results are the same.
     pub fn is_as(&self, other: &Told) -> bool {
         self.answer.as_str() == other.answer.as_str()
             && self.writes == other.writes
@@ -30,7 +30,7 @@ impl Told {
             && self.home.as_str() == other.home.as_str()
     }
 
-    /// Adds all of it.
+    /// Adds the text of the result.
     pub fn add_to(&self, all: &mut String) -> Result<(), AllocError> {
         let Told {
             answer,
@@ -46,7 +46,7 @@ impl Told {
     }
 }
 
-/// The line of an opening that reports this, with the number of the next transaction.
+/// The line of an opening with this report and next number.
 pub fn report_text(alloc: Global, report: Report, next: u64) -> Result<String, RowError> {
     if report.clean {
         return Ok(format!(in alloc; "clean next={next}")?);
@@ -56,7 +56,7 @@ pub fn report_text(alloc: Global, report: Report, next: u64) -> Result<String, R
     Ok(format!(in alloc; "recovered end={ends_at} next={next} transactions={transactions}")?)
 }
 
-/// Adds the line of a home block that is not zeros.
+/// Adds the line of a home block, if it is not zeros.
 pub fn add_home(told: &mut String, block: u64, bytes: &[u8]) -> Result<(), RowError> {
     if bytes.iter().any(|byte| *byte != 0) {
         write!(told, "\nhome {block} ")?;

@@ -14,7 +14,6 @@ use std::fmt::Write;
 /// More device calls than an upgrade makes.
 const MOST_CALLS: u64 = 20;
 
-/// What an upgrade answers.
 fn answer_text(alloc: Global, answer: Result<u32, JournalError>) -> Result<String, RowError> {
     match answer {
         Ok(sequence) => Ok(format!(in alloc; "upgraded sequence={sequence}")?),
@@ -22,7 +21,6 @@ fn answer_text(alloc: Global, answer: Result<u32, JournalError>) -> Result<Strin
     }
 }
 
-/// Reads a block of the log.
 fn read_log(alloc: Global, device: &mut MemDevice, place: u64) -> Result<Vec<u8>, RowError> {
     if place >= device.blocks(Area::Log) {
         return Err(RowError::Unread);
@@ -32,7 +30,7 @@ fn read_log(alloc: Global, device: &mut MemDevice, place: u64) -> Result<Vec<u8>
     Ok(bytes)
 }
 
-/// Adds a line for each byte in which a block is no longer what it was.
+/// Adds a line for each changed byte of a block.
 fn add_changes(told: &mut String, place: u64, old: &[u8], new: &[u8]) -> Result<(), RowError> {
     for (byte, (before, after)) in old.iter().zip(new).enumerate() {
         if before != after {
@@ -45,7 +43,7 @@ fn add_changes(told: &mut String, place: u64, old: &[u8], new: &[u8]) -> Result<
     Ok(())
 }
 
-/// The lines of the bytes of a log's area that are no longer what they were.
+/// The lines of the changed bytes of a log's area.
 fn changes_text(alloc: Global, log: &Log, device: &mut MemDevice) -> Result<String, RowError> {
     let mut told = String::new(alloc);
     for place in 0..log.shape.measures.log_blocks {
@@ -56,9 +54,8 @@ fn changes_text(alloc: Global, log: &Log, device: &mut MemDevice) -> Result<Stri
     Ok(told)
 }
 
-/// Upgrades. Given: a log, on a device that lost power with it. Found: what the upgrade answers, a line for each write and each flush that
-/// it makes, in their order, a line for each byte of the log's area that is then another, and what an opening finds where power goes away
-/// once more right behind it.
+/// Upgrades. Given: a log, on a device that lost power with it. Found: the answer of the upgrade; a line for each of its writes and
+/// flushes, in order; a line for each changed byte of the log's area; and what an opening finds after one more loss of power.
 pub fn upgrades(alloc: Global, given: &str) -> Result<String, RowError> {
     let log = log_of(alloc, given)?;
     let mut device = NotedCalls::new(device_of(alloc, &log)?);
@@ -73,8 +70,8 @@ pub fn upgrades(alloc: Global, given: &str) -> Result<String, RowError> {
     Ok(told)
 }
 
-/// What an upgrade answers of a device that stops at a write, or of which a call fails, 0 for none; and then which features the superblock
-/// says where these writes are kept, and what an opening finds. With it comes how many calls the upgrade made.
+/// The answer of an upgrade of a device that stops at a write or fails a call (0 for none); then, with these writes kept, the superblock's
+/// features and what an opening finds. Also returns how many calls the upgrade made.
 fn broken_upgrade(
     alloc: Global,
     log: &Log,
@@ -96,9 +93,8 @@ fn broken_upgrade(
     Ok((line, calls))
 }
 
-/// Upgrades that a stop ends. Given: as for `upgrades`. Found: on a line each, of a stop at the first write and of none, where no
-/// unflushed write is kept and where the first is: what the upgrade answers, which features the superblock then says, and what an
-/// opening finds.
+/// Upgrades that a stop ends. Given: as for `upgrades`. Found: a line for each choice of a stop at the first write or none, and of no
+/// unflushed write kept or the first: the answer of the upgrade, the superblock's features, and what an opening finds.
 pub fn stopped_upgrades(alloc: Global, given: &str) -> Result<String, RowError> {
     let log = log_of(alloc, given)?;
     let mut all = String::new(alloc);
@@ -110,9 +106,9 @@ pub fn stopped_upgrades(alloc: Global, given: &str) -> Result<String, RowError> 
     Ok(all)
 }
 
-/// Upgrades of which each call fails in turn, behind which power goes away. Given: as for `upgrades`. Found: on a line each, of each
-/// call that fails, where no unflushed write is kept and where the first is: what the upgrade answers, which features the superblock
-/// then says, and what an opening finds. The last two lines are of an upgrade of which no call fails.
+/// Upgrades of which each call fails in turn, followed by a loss of power. Given: as for `upgrades`. Found: a line for each failing call,
+/// and for no unflushed write kept or the first: the answer of the upgrade, the superblock's features, and what an opening finds. The last
+/// two lines are of an upgrade without a failure.
 pub fn failed_upgrades(alloc: Global, given: &str) -> Result<String, RowError> {
     let log = log_of(alloc, given)?;
     let mut all = String::new(alloc);

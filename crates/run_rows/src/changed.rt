@@ -1,6 +1,6 @@
 //! Rows of runs over logs that were changed by hand, and of the bytes that runs leave.
 //!
-//! Bytes are spelled as in `log 3 from 8: 00000002`: these, from place 8 of block 3 of the log on. `home` names the home area.
+//! Bytes are spelled like `log 3 from 8: 00000002`: these, from place 8 of block 3 of the log on. `home` names the home area.
 use crate::journals::Runner;
 use crate::scripts::given_script;
 use crate::texts::{write_hex, written};
@@ -14,9 +14,9 @@ use script_run::{Fault, RunDevice, Stopped, empty_disk, judge, run_device};
 use std::alloc::{AllocError, Global};
 use std::fmt::Write;
 
-/// A run over a log that was changed by hand, of which the image is changed by hand once more. Given: lines of bytes that
-/// stand in the formatted log, a line `run`, a script on one line, and behind it lines of bytes that stand in the image. Found:
-/// the lines of the run and of the verdict, and the verdict as an answer, or the refusal.
+/// A run over a log changed by hand, whose image is changed by hand again. Given: lines of bytes for the formatted log, a line `run`, a
+/// script on one line, and lines of bytes for the image. Found: the lines of the run and of the verdict, and the verdict as an answer, or
+/// the refusal.
 pub fn changed<J: Runner>(alloc: Global, journal: &J, given: &str) -> Result<String, RowError> {
     let (before, behind) = cut(given, "run\n")?;
     let (text, after) = behind.split_once('\n').unwrap_or((behind, ""));
@@ -28,10 +28,9 @@ pub fn changed<J: Runner>(alloc: Global, journal: &J, given: &str) -> Result<Str
     Ok(found)
 }
 
-/// What comes of a run: the verdict, or a refusal.
+/// The answer of a run: the verdict, or a refusal.
 type Answer = Result<bool, JournalError>;
 
-/// Writes what came of a run.
 fn write_answer(found: &mut String, answer: Answer) -> Result<(), AllocError> {
     match answer {
         Ok(right) => write!(found, "right {right}"),
@@ -39,7 +38,7 @@ fn write_answer(found: &mut String, answer: Answer) -> Result<(), AllocError> {
     }
 }
 
-/// The answer of a call whose output can't fail but for want of memory.
+/// The answer of a call whose output fails only for lack of memory.
 fn answer_of<T: Drop>(answer: Result<T, Fault>) -> Result<Result<T, JournalError>, RowError> {
     match answer {
         Ok(value) => Ok(Ok(value)),
@@ -48,7 +47,7 @@ fn answer_of<T: Drop>(answer: Result<T, Fault>) -> Result<Result<T, JournalError
     }
 }
 
-/// Runs the operations of a script over its log with these bytes, and judges the image with those.
+/// Runs a script's operations over its log with these bytes, and judges the image with those.
 fn run_changed<J: Runner>(
     alloc: Global,
     journal: &J,
@@ -65,7 +64,7 @@ fn run_changed<J: Runner>(
     }
 }
 
-/// Runs operations over a device with a log, which it opens.
+/// Opens a device's log, and runs operations on it.
 fn run_over<J: Runner>(
     alloc: Global,
     journal: &J,
@@ -79,7 +78,7 @@ fn run_over<J: Runner>(
     }
 }
 
-/// The device of a script, formatted, with these bytes.
+/// The formatted device of a script, with these bytes.
 fn changed_disk(alloc: Global, script: &Script, lines: &str) -> Result<MemDevice, RowError> {
     match empty_disk(alloc, &script.measures) {
         Ok(disk) => with_bytes(alloc, disk, lines),
@@ -109,7 +108,7 @@ fn judge_changed(
     answer_of(judge(alloc, changed, &[], &named, out))
 }
 
-/// The device with the bytes of these lines, which are durable. Its writes are numbered from 1 again.
+/// The device with the bytes of these lines, durably. Its writes are numbered from 1 again.
 fn with_bytes(alloc: Global, mut device: MemDevice, lines: &str) -> Result<MemDevice, RowError> {
     for line in lines.lines() {
         write_line(alloc, &mut device, line)?;
@@ -119,7 +118,6 @@ fn with_bytes(alloc: Global, mut device: MemDevice, lines: &str) -> Result<MemDe
     Ok(device.crash(&[]))
 }
 
-/// Makes an area durable.
 fn flush(device: &mut MemDevice, area: Area) -> Result<(), RowError> {
     match device.flush(area) {
         Ok(()) => Ok(()),
@@ -142,14 +140,14 @@ fn write_line(alloc: Global, device: &mut MemDevice, line: &str) -> Result<(), R
     }
 }
 
-/// The area, the block and the place that a text as `log 3 from 8` names.
+/// The area, the block and the place of a text like `log 3 from 8`.
 fn place_of(text: &str) -> Result<(Area, u64, usize), RowError> {
     let (block, from) = cut(text, " from ")?;
     let (area, n) = named_block(block)?;
     Ok((area, n, number(from)? as usize))
 }
 
-/// The area and the block that a text as `log 3` names.
+/// The area and the block of a text like `log 3`.
 fn named_block(text: &str) -> Result<(Area, u64), RowError> {
     let (area, n) = cut(text, " ")?;
     match area {
@@ -170,7 +168,7 @@ fn put(block: &mut [u8], from: usize, bytes: &[u8]) -> Result<(), RowError> {
     Ok(())
 }
 
-/// A block of a device.
+/// Reads a block of a device.
 fn block_of(
     alloc: Global,
     device: &mut MemDevice,
@@ -187,9 +185,8 @@ fn block_of(
     }
 }
 
-/// The bytes that a run leaves. Given: a script on one line, and behind it lines that name blocks, as `log 3`, or bytes of
-/// them, as `log 3 from 8 for 4`. Found: these lines with the bytes of the device behind the run, and behind a line `opened`
-/// those of the device that was opened behind a crash.
+/// The bytes that a run leaves. Given: a script on one line, and lines that name blocks, like `log 3`, or bytes of them, like `log 3 from 8
+/// for 4`. Found: these lines with the device's bytes after the run; after a line `opened`, with those after a crash and an opening.
 pub fn bytes<J: Runner>(alloc: Global, journal: &J, given: &str) -> Result<String, RowError> {
     let (text, lines) = cut(given, "\n")?;
     let script = given_script(alloc, text)?;
@@ -204,7 +201,7 @@ pub fn bytes<J: Runner>(alloc: Global, journal: &J, given: &str) -> Result<Strin
     Ok(all)
 }
 
-/// The device behind the run of a script.
+/// The device after the run of a script.
 fn device_behind<J: Runner>(
     alloc: Global,
     journal: &J,
@@ -216,7 +213,7 @@ fn device_behind<J: Runner>(
     }
 }
 
-/// The device once a crash has taken what was not flushed, and its log is opened.
+/// The device after a crash that keeps no unflushed write, and an opening of its log.
 fn opened_device(alloc: Global, device: MemDevice) -> Result<MemDevice, RowError> {
     match open(alloc, device.crash(&[])) {
         Ok(opened) => Ok(opened.into_device()),
@@ -252,7 +249,7 @@ fn write_named(
     write_part(all, &bytes, part)
 }
 
-/// Writes the bytes of a block that a text as `8 for 4` names, and no more than there are.
+/// Writes the bytes of a block that a text like `8 for 4` names, as far as there are any.
 fn write_part(all: &mut String, block: &[u8], part: &str) -> Result<(), RowError> {
     let (from, count) = cut(part, " for ")?;
     let from = number(from)? as usize;
@@ -265,7 +262,7 @@ fn write_part(all: &mut String, block: &[u8], part: &str) -> Result<(), RowError
     }
 }
 
-/// Writes bytes as digits of base 16; in the place of more than eight zeros at the end it says how many there are.
+/// Writes bytes as hex digits; more than eight zeros at the end are counted instead.
 fn write_bytes(all: &mut String, bytes: &[u8]) -> Result<(), AllocError> {
     let used = bytes
         .iter()

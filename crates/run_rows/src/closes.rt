@@ -10,12 +10,11 @@ use script_run::{Record, Stopped, judge};
 use std::alloc::Global;
 use std::fmt::Write;
 
-/// Journals that are closed. Given: steps with ` | ` between them. The first one says which write of the journal stops the device,
-/// as `stop 4`, or which of its device calls fails, as `fail 7`; 0 is none. Each further one is the writes of a handle, which
-/// then stops, as `9=11 10=22`: home blocks with their first byte; the same with `, request` behind it, where a commit is asked
-/// for; or so many commit turns or checkpoint turns, as `turns 3` or `checks 2`. Found: what the close answers; how many
-/// transactions were sealed and are committed, and how many writes were made; where the device then loses power, the dump of its
-/// log, what an opening finds, and the verdict; and how many writes that opening made.
+/// Journals that are closed. Given: steps with ` | ` between them. The first says at which write of the journal the device stops, like
+/// `stop 4`, or which of its calls fails, like `fail 7`; 0 is none. Each other one is: the writes of a handle, which then stops, like `9=11
+/// 10=22`, home blocks with their first byte; the same followed by `, request`, which requests a commit; or commit or checkpoint turns,
+/// like `turns 3` or `checks 2`. Found: the close's answer; how many transactions were sealed and committed, and how many writes were made;
+/// after a loss of power, the dump of the log, what an opening finds, and the verdict; and how many writes that opening made.
 pub fn closes(alloc: Global, given: &str) -> Result<String, RowError> {
     let (first, steps) = given.split_once(" | ").unwrap_or((given, ""));
     let fault = fault_of(first)?;
@@ -37,10 +36,10 @@ pub fn closes(alloc: Global, given: &str) -> Result<String, RowError> {
     Ok(told)
 }
 
-/// Journals that are closed over a device that stops at each write, or of which each call fails. Given: steps as for `closes`,
-/// where the first one is a line as `stops 1 to 8, any of the last 2 writes kept`, or `fails 1 to 14` with the same behind it.
-/// Found: each way in which the closes end, with what is answered, sealed and committed, what an opening finds, the blocks that
-/// were written and the verdict, and the stops or failing calls that make one end so.
+/// Journals that are closed over a device that stops at each write, or of which each call fails. Given: steps as for `closes`, the first a
+/// line like `stops 1 to 8, any of the last 2 writes kept`, or `fails 1 to 14` with the same after it. Found: each way in which the closes
+/// end (what is answered, sealed and committed, what an opening finds, the written blocks and the verdict), with the stops or failing calls
+/// that lead to it.
 pub fn interrupted_closes(alloc: Global, given: &str) -> Result<String, RowError> {
     let (line, steps) = cut(given, " | ")?;
     let [first, last, back] = numbers_in::<3>(line)?;
@@ -58,7 +57,7 @@ pub fn interrupted_closes(alloc: Global, given: &str) -> Result<String, RowError
     Ok(endings_text(alloc, &endings, places)?)
 }
 
-/// Adds how closes end over a device with this fault, where any of so many last writes are kept.
+/// Adds how closes over a device with this fault end, for each choice of so many last writes that are kept.
 fn add_closes(
     alloc: Global,
     fault: Fault,
@@ -79,7 +78,7 @@ fn add_closes(
     Ok(())
 }
 
-/// How a close ends where the device then loses power and keeps these writes.
+/// How a close ends, if the device then loses power and keeps these writes.
 fn ending_of(alloc: Global, closed: Closed, kept: &[u64]) -> Result<String, RowError> {
     let mut told = String::new(alloc);
     write!(
@@ -107,7 +106,7 @@ fn fault_of(step: &str) -> Result<Fault, RowError> {
     }
 }
 
-/// How many writes an opening makes of what a close left, where the device loses power before it.
+/// How many writes an opening makes after a close and a loss of power.
 fn writes_of_opening(alloc: Global, closed: Closed) -> Result<u64, RowError> {
     match open(alloc, closed.device.crash(&[])) {
         Ok(opened) => Ok(opened.into_device().writes()),
@@ -115,8 +114,8 @@ fn writes_of_opening(alloc: Global, closed: Closed) -> Result<u64, RowError> {
     }
 }
 
-/// The lines of the verdict on what a close left where the device loses power and keeps these writes, and whether it is right:
-/// what is committed counts as acknowledged.
+/// The lines of the verdict on what a close left, if the device loses power and keeps these writes, and whether it is right. Committed
+/// transactions count as acknowledged.
 fn judged(alloc: Global, closed: Closed, kept: &[u64]) -> Result<(String, bool), RowError> {
     let Closed {
         answer: _,
@@ -141,7 +140,6 @@ fn judged(alloc: Global, closed: Closed, kept: &[u64]) -> Result<(String, bool),
     }
 }
 
-/// The number of the last committed transaction.
 fn last_committed(sealed: &[Sealed], committed: u64) -> Option<Tid> {
     let last = usize::try_from(committed).ok()?.checked_sub(1)?;
     Some(sealed.get(last)?.tid)

@@ -1,4 +1,4 @@
-//! A journal over a device that stops or fails, and its close.
+//! Closes a journal over a device that stops or fails.
 ghost use Rattle.std.specs.Prelude.{◌≡◌, length, IfOk};
 
 use block_device::{FailOnce, MemDevice, StopAt};
@@ -11,24 +11,23 @@ use journal_script::NamedBlocks;
 use recovery::{Opened, format, open};
 use std::alloc::{AllocError, Global};
 
-/// What happens to the device of a journal.
+/// A fault of a journal's device.
 #[derive(Clone, Copy)]
 pub enum Fault {
     /// It stops at this write of the journal; 0 is none.
     Stop(u64),
-    /// This of its calls for the journal fails; 0 is none.
+    /// This call for the journal fails; 0 is none.
     Fail(u64),
 }
 
-/// A device that stops, or of which a call fails.
 type FaultyDevice = FailOnce<StopAt<MemDevice>>;
 
 /// What is left of a journal that was closed.
 #[derive(Drop)]
 pub struct Closed {
-    /// What the close answered.
+    /// The close's answer.
     pub answer: String,
-    /// The transactions that were sealed.
+    /// The sealed transactions.
     pub sealed: Vec<Sealed>,
     /// How many of them are committed.
     pub committed: u64,
@@ -45,11 +44,11 @@ struct User {
     named: NamedBlocks,
 }
 
-/// Closes a journal after these steps, on a log of 33 blocks of 1024 bytes that was just formatted, with 64 home blocks.
+/// Closes a journal after these steps, on a new log of 33 blocks of 1024 bytes, with 64 home blocks.
 ///
 /// # Errors
 ///
-/// `Unread` where a step is none, or can't be made; `Memory`.
+/// `Unread`: a step is none, or can't be made. `Memory`.
 pub fn close_after(alloc: Global, fault: Fault, steps: &str) -> Result<Closed, RowError> {
     let mut user = User {
         journal: new_journal(alloc, fault)?,
@@ -61,7 +60,7 @@ pub fn close_after(alloc: Global, fault: Fault, steps: &str) -> Result<Closed, R
     close(alloc, user)
 }
 
-/// Closes a journal, of which all handles have stopped.
+/// Closes a journal without open handles.
 fn close(alloc: Global, user: User) -> Result<Closed, RowError> {
     let User { journal, named } = user;
     if journal.has_open_handles() {
@@ -100,12 +99,11 @@ fn new_journal(
         .ok_or(RowError::Memory)
 }
 
-/// How many calls the opening of an empty log makes.
 fn calls_of_opening(alloc: Global) -> Result<u64, RowError> {
     Ok(opened(alloc, 0, 0)?.into_device().calls())
 }
 
-/// An empty log, opened on a device that stops at a write, or of which a call fails.
+/// An empty log, opened on a device that stops at a write or fails a call.
 fn opened(alloc: Global, stop: u64, fail: u64) -> Result<Opened<FaultyDevice>, RowError> {
     let mut device = MemDevice::new(alloc, 1024, 33, 64);
     if format(&mut device, 33, &[0xaa; 16], false).is_err() {
@@ -115,7 +113,7 @@ fn opened(alloc: Global, stop: u64, fail: u64) -> Result<Opened<FaultyDevice>, R
     open(alloc, device).ok().ok_or(RowError::Memory)
 }
 
-/// Makes one step. Turns that are refused are passed over.
+/// Makes one step. Refused turns are passed over.
 fn make_step(alloc: Global, user: &mut User, step: &str) -> Result<(), RowError> {
     if let Some(count) = step.strip_prefix("turns ") {
         for _ in 0..number(count)? {
@@ -135,7 +133,7 @@ fn make_step(alloc: Global, user: &mut User, step: &str) -> Result<(), RowError>
     write_and_stop(alloc, user, step)
 }
 
-/// Lets a handle write its blocks and stop, and asks for a commit where the step says so.
+/// Lets a handle write its blocks and stop, and requests a commit if the step says so.
 fn write_and_stop(alloc: Global, user: &mut User, step: &str) -> Result<(), RowError> {
     let (writes, request) = match step.strip_suffix(", request") {
         Some(writes) => (writes, true),
@@ -151,7 +149,6 @@ fn write_and_stop(alloc: Global, user: &mut User, step: &str) -> Result<(), RowE
     Ok(())
 }
 
-/// A handle with two credits.
 fn new_handle(user: &mut User) -> Result<Handle, RowError> {
     let Ok(credits) = user.journal.reserve(2) else {
         return Err(RowError::Unread);
@@ -188,7 +185,7 @@ fn write_all(
     Ok(())
 }
 
-/// A block of zeros behind one byte.
+/// A block that begins with one byte, then zeros.
 fn block_of(alloc: Global, size: usize, first: u8) -> Result<Vec<u8>, AllocError>
     ensures { IfOk result (λ block. length block.items ≡ size) }
 {

@@ -1,4 +1,4 @@
-//! In which ways runs end that are interrupted at one place after another.
+//! Gathers the ways in which runs end that are interrupted at one place after another.
 use crate::scripts::given_script;
 use crate::texts::numbers_in;
 use format_rows::RowError;
@@ -10,9 +10,9 @@ use std::fmt::Write;
 /// What a row gives.
 #[derive(Drop)]
 pub struct Given {
-    /// What is run.
+    /// The script.
     pub script: Script,
-    /// The first place at which it is interrupted.
+    /// The first place of an interruption.
     pub first: u64,
     /// The last one.
     pub last: u64,
@@ -20,11 +20,11 @@ pub struct Given {
     pub choices: u64,
 }
 
-/// What a row gives: on a line the three numbers, and behind it the script.
+/// Reads a row: a line with the three numbers, and the script.
 ///
 /// # Errors
 ///
-/// `Unread` where more than the last 8 writes may be kept, or the text is no script; `Memory`.
+/// `Unread`: more than the last 8 writes may be kept, or the text is no script. `Memory`.
 pub fn given_of(alloc: Global, given: &str) -> Result<Given, RowError> {
     let (line, text) = cut(given, "\n")?;
     let [first, last, back] = numbers_in::<3>(line)?;
@@ -44,13 +44,13 @@ pub fn given_of(alloc: Global, given: &str) -> Result<Given, RowError> {
 pub struct Ending {
     /// What an opening finds, the named blocks, and the verdict.
     text: String,
-    /// The first and the last place of each series of places behind which runs end so.
+    /// The series of places after which runs end so, each by its first and last.
     places: Vec<(u64, u64)>,
-    /// Whether a run ends so that is not interrupted.
+    /// Whether a run without an interruption ends so.
     is_of_end: bool,
 }
 
-/// Of the last writes up to `k` those whose bit is set, the last one's first.
+/// The last writes up to `k` whose bit is set, the last one first.
 pub fn kept(alloc: Global, k: u64, bits: u64) -> Result<Vec<u64>, AllocError> {
     let mut kept = Vec::new(alloc);
     for back in 0..8 {
@@ -61,12 +61,12 @@ pub fn kept(alloc: Global, k: u64, bits: u64) -> Result<Vec<u64>, AllocError> {
     Ok(kept)
 }
 
-/// Lines as one, with commas.
+/// Joins lines with commas.
 pub fn in_one_line(alloc: Global, lines: &str) -> Result<String, AllocError> {
     lines.trim_end().replace(alloc, "\n", ", ")
 }
 
-/// Notes that a run ends so that is interrupted there, or nowhere.
+/// Notes that a run ends so after an interruption at this place, or without one.
 pub fn note(
     alloc: Global,
     endings: &mut Vec<Ending>,
@@ -87,7 +87,6 @@ pub fn note(
     Ok(endings.push(ending)?)
 }
 
-/// Adds a place to those of an ending.
 fn add_to(ending: &mut Ending, place: Option<u64>) -> Result<(), AllocError> {
     match place {
         Some(k) => add_number(&mut ending.places, k),
@@ -98,7 +97,7 @@ fn add_to(ending: &mut Ending, place: Option<u64>) -> Result<(), AllocError> {
     }
 }
 
-/// Adds a number to series of numbers, of which it may continue the last.
+/// Adds a number to series of numbers; it may continue the last.
 fn add_number(series: &mut Vec<(u64, u64)>, k: u64) -> Result<(), AllocError> {
     match series.last_mut() {
         Some((_, last)) if *last == k || last.saturating_add(1) == k => {
@@ -118,7 +117,6 @@ pub fn endings_text(alloc: Global, endings: &[Ending], places: &str) -> Result<S
     Ok(all)
 }
 
-/// Writes the line of an ending, with this word for the places.
 fn write_ending(all: &mut String, ending: &Ending, places: &str) -> Result<(), AllocError> {
     write!(all, "{}: {places}", ending.text)?;
     for (first, last) in &ending.places {

@@ -13,9 +13,8 @@ use script_run::{Fault, Stop, Stops};
 use std::alloc::{AllocError, Global};
 use std::fmt::Write;
 
-/// Images that are copied. Given: on a line the write at which the run stops, 0 for none, and the writes that are kept, as
-/// `stop 5, keep 5`; and behind it a script. Found: what the run's opening found, and what an opening of the copy finds behind a loss
-/// of power.
+/// Images that are copied. Given: a line with the write at which the run stops, 0 for none, and the kept writes, like `stop 5, keep 5`; and
+/// a script. Found: what the run's opening found, and what an opening of the copy finds after a loss of power.
 pub fn images<J: Runner>(alloc: Global, journal: &J, given: &str) -> Result<String, RowError> {
     let (line, text) = cut(given, "\n")?;
     let (stop, keep) = cut(line, ", keep")?;
@@ -35,7 +34,7 @@ pub fn images<J: Runner>(alloc: Global, journal: &J, given: &str) -> Result<Stri
     Ok(told)
 }
 
-/// The numbers of a text, or `None` where a word is none.
+/// The numbers of a text; `None` if a word is no number.
 fn all_numbers(alloc: Global, text: &str) -> Result<Option<Vec<u64>>, AllocError> {
     let mut numbers = Vec::new(alloc);
     for word in text.split_whitespace() {
@@ -47,14 +46,14 @@ fn all_numbers(alloc: Global, text: &str) -> Result<Option<Vec<u64>>, AllocError
     Ok(Some(numbers))
 }
 
-/// A device of a script's measures.
+/// A blank device of a script's measures.
 fn blank(alloc: Global, script: &Script) -> MemDevice {
     let measures = &script.measures;
     let log_blocks = u64::from(measures.log_blocks);
     MemDevice::new(alloc, measures.block_size, log_blocks, measures.home_blocks)
 }
 
-/// What the opening of a run's image found, that is copied to this device: the line of the opening, or why there is none.
+/// What the opening found of a run's image that is copied to this device, or why there is none.
 fn opening_of_run<J: Runner, D: Device>(
     alloc: Global,
     journal: &J,
@@ -87,7 +86,7 @@ fn opening_of_run<J: Runner, D: Device>(
     }
 }
 
-/// What an opening of the copy finds, of which only what is durable is left.
+/// What an opening finds of the durable part of the copy.
 fn opening_of_copy(alloc: Global, copy: MemDevice) -> Result<String, RowError> {
     match open(alloc, copy.crash(&[])) {
         Ok(opened) => {
@@ -102,8 +101,8 @@ fn opening_of_copy(alloc: Global, copy: MemDevice) -> Result<String, RowError> {
     }
 }
 
-/// Copies of which each call fails in turn. Given: a line as `calls 1 to 21`, and a script. Found: what the run's opening found, or
-/// why there was none and behind how many lines; and the calls of which one failed then.
+/// Copies of which each call fails in turn. Given: a line like `calls 1 to 21`, and a script. Found: what the run's opening found, or why
+/// there was none and after how many lines; and the failing calls that lead to it.
 pub fn failed_copies<J: Runner>(
     alloc: Global,
     journal: &J,

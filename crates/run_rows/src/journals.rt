@@ -1,4 +1,4 @@
-//! The journals over which scripts are run.
+//! The journals on which rows run scripts.
 use block_device::Device;
 use journal_script::{Operation, Script};
 use recovery::Opened;
@@ -6,9 +6,9 @@ use script_run::{AfterFailure, AnyHome, Fault, RunDevice, Stopped, Stops};
 use std::alloc::Global;
 use std::sync::Wait;
 
-/// A journal, by what rows ask of it: to run scripts as `script_run` does.
+/// A journal as rows use it: it runs scripts as `script_run` does.
 pub trait Runner {
-    /// Runs a script, and prints its lines and the verdict, which is also the answer.
+    /// Runs a script, and prints its lines and the verdict, which is the answer.
     ///
     /// # Errors
     ///
@@ -21,7 +21,7 @@ pub trait Runner {
         out: &mut Vec<u8>,
     ) -> Result<bool, Fault>;
 
-    /// The same, and writes what the stop left to a device.
+    /// The same, and copies the crash image to a device.
     ///
     /// # Errors
     ///
@@ -35,7 +35,7 @@ pub trait Runner {
         out: &mut Vec<u8>,
     ) -> Result<bool, Fault>;
 
-    /// Runs the operations of a script on an empty log.
+    /// Runs a script's operations on an empty log.
     ///
     /// # Errors
     ///
@@ -49,7 +49,7 @@ pub trait Runner {
         out: &mut Vec<u8>,
     ) -> Result<Stopped, Fault>;
 
-    /// Runs operations over an opened log.
+    /// Runs operations on an opened log.
     ///
     /// # Errors
     ///

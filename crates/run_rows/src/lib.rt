@@ -1,8 +1,7 @@
-//! What is done with rows of runs: of scripts and what they are read as; of runs that stop, and of openings that stop, also of devices
-//! that have lost no power; of images that are copied; of runs over logs that were changed by hand; and of journals that are closed.
+//! Does what rows of runs say: reads scripts; runs that stop, and openings that stop, also on devices that have lost no power; copies
+//! images; runs over logs changed by hand; and closes journals.
 //!
-//! A row gives a text and says what text is wanted. Each kind of rows is a function here. `endings` gathers in which ways runs
-//! end, `texts` has what rows of words need too, and `journals` the journals over which scripts are run.
+//! A row gives a text, and the text that is wanted. Each kind of rows is a function here.
 #![tactic(auto)]
 
 pub mod changed;

@@ -1,4 +1,4 @@
-//! Rows of devices that are opened again behind a failed call, without having lost power.
+//! Rows of devices that are opened again after a failed call, without a loss of power.
 use crate::endings::{Ending, Given, endings_text, given_of, in_one_line, kept, note};
 use crate::journals::Runner;
 use crate::texts::{numbers_in, written};
@@ -11,10 +11,10 @@ use recovery::{Opened, Report, open};
 use script_run::{Fault, OpenedImage, Stopped, judge_opened, judge_reopened, open_image};
 use std::alloc::Global;
 
-/// Runs of which a call fails, and whose device is then opened as it is: it has lost no power, and reads all that was written. That
-/// opening stops at each write, and what it leaves is opened once more. Given: a line as `call 8 fails`, another as `openings that stop
-/// at writes 1 to 4, any of the last 4 writes kept`, and a script. Found: each way in which these end, with what the last opening
-/// finds, the named blocks and the verdict, and the stops of which some kept writes make one end so.
+/// Runs of which a call fails, and whose device is then opened as it is: it has lost no power, and reads all that was written. That opening
+/// stops at each write, and its crash image is opened again. Given: a line like `call 8 fails`, another like `openings that stop at writes
+/// 1 to 4, any of the last 4 writes kept`, and a script. Found: each way in which these end (what the last opening finds, the named blocks
+/// and the verdict), with the stops that lead to it for some kept writes.
 pub fn reopened_devices<J: Runner>(
     alloc: Global,
     journal: &J,
@@ -31,7 +31,7 @@ pub fn reopened_devices<J: Runner>(
     Ok(endings_text(alloc, &endings, "stops")?)
 }
 
-/// What a run left of which a call failed.
+/// A run of which a call failed.
 #[derive(Drop)]
 struct Failed {
     /// The run, whose device has lost no power.
@@ -42,7 +42,7 @@ struct Failed {
     first: Report,
 }
 
-/// What a run leaves of which this call fails.
+/// Runs the script with a failure of this call.
 fn failed_of<J: Runner>(
     alloc: Global,
     journal: &J,
@@ -66,7 +66,7 @@ fn failed_of<J: Runner>(
     Ok(Failed { run, named, first })
 }
 
-/// Adds how openings of the device end that stop at write `k` and keep any of the last writes up to that.
+/// Adds how openings of the device end that stop at write `k`, for each choice of the last writes up to that.
 fn add_stops(
     alloc: Global,
     given: &Given,
@@ -117,7 +117,7 @@ fn judge_whole(
     right_of(judge_opened(alloc, opened, recorded, &failed.named, out))
 }
 
-/// Opens what a stopped opening left, and judges that.
+/// Opens the crash image of a stopped opening, and judges that.
 fn judge_left(
     alloc: Global,
     failed: &Failed,
@@ -131,7 +131,6 @@ fn judge_left(
     right_of(judge_reopened(alloc, opened, failed.first, recorded, &failed.named, out))
 }
 
-/// The verdict, where there is one.
 fn right_of(verdict: Result<bool, Fault>) -> Result<bool, RowError> {
     match verdict {
         Ok(right) => Ok(right),

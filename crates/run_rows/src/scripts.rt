@@ -1,11 +1,11 @@
-//! Rows of texts that are scripts, and of texts that are none.
+//! Rows of texts that are scripts, and of texts that are not.
 use crate::texts::write_hex;
 use format_rows::RowError;
 use journal_script::{Measures, Operation, Script, ScriptError, read};
 use std::alloc::{AllocError, Global};
 use std::fmt::Write;
 
-/// The script of a text, or none where it is no script.
+/// The script of a text; `None` if it is no script.
 fn script_of(alloc: Global, text: &[u8]) -> Result<Option<Script>, RowError> {
     match read(alloc, text) {
         Ok(script) => Ok(Some(script)),
@@ -18,12 +18,12 @@ fn script_of(alloc: Global, text: &[u8]) -> Result<Option<Script>, RowError> {
 ///
 /// # Errors
 ///
-/// `Unread` where the text is no script; `Memory`.
+/// `Unread`: the text is no script. `Memory`.
 pub fn given_script(alloc: Global, text: &str) -> Result<Script, RowError> {
     script_of(alloc, text.as_bytes())?.ok_or(RowError::Unread)
 }
 
-/// The bytes of a text in which `\xff` is the byte 255, which stands in no text.
+/// The bytes of a text in which `\xff` is the byte 255, which no text has.
 fn bytes_of(alloc: Global, text: &str) -> Result<Vec<u8>, AllocError> {
     let mut bytes = Vec::new(alloc);
     for (i, part) in text.split(r"\xff").enumerate() {
@@ -35,8 +35,8 @@ fn bytes_of(alloc: Global, text: &str) -> Result<Vec<u8>, AllocError> {
     Ok(bytes)
 }
 
-/// Whether a text is a script, and the measures that its keys give: `no script`, or as
-/// `block 1024, log 33, home 64, uuid aa...`, and behind that `, wide` where block numbers have 64 bits.
+/// Whether a text is a script, and the measures of its keys: `no script`, or like `block 1024, log 33, home 64, uuid aa...`, followed by `,
+/// wide` for block numbers of 64 bits.
 pub fn script(alloc: Global, given: &str) -> Result<String, RowError> {
     let bytes = bytes_of(alloc, given)?;
     match script_of(alloc, &bytes)? {
@@ -58,8 +58,7 @@ pub fn measures_text(alloc: Global, measures: &Measures) -> Result<String, Alloc
     Ok(text)
 }
 
-/// The operations as which a script is read, one a line: its word, handle and number, and behind a write, of a handle or a
-/// direct one, its bytes.
+/// The operations of a script, one a line: the word, handle and number, and after a write, through a handle or direct, its bytes.
 pub fn operations(alloc: Global, given: &str) -> Result<String, RowError> {
     let script = given_script(alloc, given)?;
     let mut all = String::new(alloc);
@@ -69,7 +68,6 @@ pub fn operations(alloc: Global, given: &str) -> Result<String, RowError> {
     Ok(all)
 }
 
-/// Writes the line of an operation.
 fn write_operation(all: &mut String, operation: &Operation) -> Result<(), AllocError> {
     write!(all, "{operation}")?;
     if let Operation::Write(_, _, bytes) | Operation::WriteDirect(_, bytes) = operation {

@@ -8,9 +8,8 @@ use journal_script::Script;
 use script_run::{Stop, Stops};
 use std::alloc::Global;
 
-/// Runs that stop at each write. Given: a line as `stops 1 to 13, any of the last 4 writes kept`, and a script. Found: each way
-/// in which runs end, with what an opening finds, the named blocks and the verdict, and the stops of which some kept writes
-/// make a run end so.
+/// Runs that stop at each write. Given: a line like `stops 1 to 13, any of the last 4 writes kept`, and a script. Found: each way in which
+/// runs end (what an opening finds, the named blocks and the verdict), with the stops that lead to it for some kept writes.
 pub fn stops<J: Runner>(alloc: Global, journal: &J, given: &str) -> Result<String, RowError> {
     let given = given_of(alloc, given)?;
     let mut endings = Vec::new(alloc);
@@ -20,7 +19,7 @@ pub fn stops<J: Runner>(alloc: Global, journal: &J, given: &str) -> Result<Strin
     Ok(endings_text(alloc, &endings, "stops")?)
 }
 
-/// Adds how runs end that stop at write `k` and keep any of the last writes up to that.
+/// Adds how runs end that stop at write `k`, for each choice of the last writes up to that.
 fn add_stop<J: Runner>(
     alloc: Global,
     journal: &J,
@@ -35,7 +34,6 @@ fn add_stop<J: Runner>(
     Ok(())
 }
 
-/// A stop at write `k` that keeps these.
 fn stop_at<'a>(k: u64, kept: &'a [u64]) -> Stop<'a> {
     Stop {
         at_write: Some(k),
@@ -43,7 +41,6 @@ fn stop_at<'a>(k: u64, kept: &'a [u64]) -> Stop<'a> {
     }
 }
 
-/// No stop.
 const NO_STOP: Stop<'static> = Stop {
     at_write: None,
     keep: &[],
@@ -84,9 +81,9 @@ fn add_lines(
     Ok(note(alloc, endings, text, stop.parse().ok())?)
 }
 
-/// Runs that stop at their end, and openings of what they leave that stop at each write. Given: a line as
-/// `openings that stop at writes 1 to 5, any of the last 4 kept`, and a script. Found: each way in which these end, with what the
-/// last opening finds, the named blocks and the verdict, and the stops of which some kept writes make one end so.
+/// Runs that stop at their end, and whose openings stop at each write. Given: a line like `openings that stop at writes 1 to 5, any of the
+/// last 4 kept`, and a script. Found: each way in which these end (what the last opening finds, the named blocks and the verdict), with the
+/// stops that lead to it for some kept writes.
 pub fn stops_of_openings<J: Runner>(
     alloc: Global,
     journal: &J,
@@ -100,7 +97,7 @@ pub fn stops_of_openings<J: Runner>(
     Ok(endings_text(alloc, &endings, "stops")?)
 }
 
-/// Adds how openings end that stop at write `k` and keep any of the last writes up to that.
+/// Adds how openings end that stop at write `k`, for each choice of the last writes up to that.
 fn add_openings<J: Runner>(
     alloc: Global,
     journal: &J,
@@ -136,7 +133,7 @@ fn add_opening<J: Runner>(
     }
 }
 
-/// Adds how an opening ends of which these lines were printed: from the line of the last opening on.
+/// Adds how an opening ends that printed these lines, from the line of the last opening on.
 fn add_opened(
     alloc: Global,
     lines: &str,

@@ -4,7 +4,7 @@ use std::alloc::AllocError;
 use std::fmt::Write;
 use std::str::from_utf8;
 
-/// The first numbers of a line: words that are none are passed over.
+/// The first numbers of a line; other words are passed over.
 pub fn numbers_in<const N: usize>(line: &str) -> Result<[u64; N], RowError> {
     let mut found = [0; N];
     let mut numbers = line
@@ -16,7 +16,7 @@ pub fn numbers_in<const N: usize>(line: &str) -> Result<[u64; N], RowError> {
     Ok(found)
 }
 
-/// Writes bytes as digits of base 16.
+/// Writes bytes as hex digits.
 pub fn write_hex(all: &mut String, bytes: &[u8]) -> Result<(), AllocError> {
     for byte in bytes {
         write!(all, "{byte:02x}")?;
@@ -24,7 +24,6 @@ pub fn write_hex(all: &mut String, bytes: &[u8]) -> Result<(), AllocError> {
     Ok(())
 }
 
-/// The text that was written to a buffer.
 pub fn written(bytes: &[u8]) -> Result<&str, RowError> {
     from_utf8(bytes).ok().ok_or(RowError::Unread)
 }

@@ -1,4 +1,4 @@
--- What is left of a journal at its end.
+-- Lemmas: what is left of a journal at its end.
 use Rattle.std.proofs.Common.{inl, sym, subst, ◌∙◌}
 use Rattle.std.specs.Prelude.{◌≡◌, ℕ, ◌++◌, List, Option, None}
 use Rattle.journal_model.specs.declared.refusal.JournalError.{JournalError}
@@ -19,7 +19,7 @@ use Rattle.journal_script.specs.declared.script.Operation.{Operation}
 use Rattle.script_client.specs.Ended.{IsEnded, IsLeftClosed, world_in}
 use Rattle.script_client.specs.Told.{HasLedTo, IsLedTo, running_world}
 
--- a journal that still runs
+-- a journal that still runs is ended
 pub led-ended : (Fact : Shape → Disk → Type 0) (operations : List Operation) (j : Journal) (state : DeviceState) (sealed : History) (shown : Option ℕ) → HasLedTo Fact operations j state shown
     → sealed ≡ j.front.sealed → IsEnded Fact operations state sealed shown
 led-ended Fact operations j state sealed shown led is = record {
@@ -41,7 +41,7 @@ led-ended Fact operations j state sealed shown led is = record {
 pub to-ended : (Fact : Shape → Disk → Type 0) (operations : List Operation) (state : DeviceState) (sealed : History) (shown : Option ℕ) → IsLedTo Fact operations state sealed shown → IsEnded Fact operations state sealed shown
 to-ended Fact operations state sealed shown to = led-ended Fact operations to.journal state sealed shown to.led to.sealed_is
 
--- one that was ended by moves of its own
+-- a journal that moves of its own ended is ended
 pub ends-ended : (Fact : Shape → Disk → Type 0) (operations : List Operation) (old : Journal) (before after : DeviceState) (sealed : History) (committed : ℕ) (shown : Option ℕ) (phase : Phase)
     → HasLedTo Fact operations old before shown → EndsWith old before.disk sealed committed after.disk phase → after.shape ≡ before.shape → IsEnded Fact operations after sealed shown
 ends-ended Fact operations old before after sealed committed shown phase led ends shape =
@@ -67,20 +67,20 @@ ends-ended Fact operations old before after sealed committed shown phase led end
       sealed_is = ends.sealed_is;
     }
 
--- one that was closed
+-- a closed journal is ended
 pub close-ended : (Fact : Shape → Disk → Type 0) (operations : List Operation) (old : Journal) (before after : DeviceState) (sealed : History) (committed : ℕ) (shown : Option ℕ)
     → HasLedTo Fact operations old before shown → CloseDid old before.disk sealed committed after.disk → after.shape ≡ before.shape → IsEnded Fact operations after sealed shown
 close-ended Fact operations old before after sealed committed shown led (ClosesLog ends) shape = ends-ended Fact operations old before after sealed committed shown Closed led ends shape
 close-ended Fact operations old before after sealed committed shown led (StaysClean none ends) shape = ends-ended Fact operations old before after sealed committed shown Shut led ends shape
 
--- its log is clean, by the measures of its device
+-- the log of a closed journal is clean, by the measures of its device
 pub left-closed : (Fact : Shape → Disk → Type 0) (operations : List Operation) (old : Journal) (before after : DeviceState) (sealed : History) (shown : Option ℕ) → HasLedTo Fact operations old before shown
     → ((image : Image) → Leaves after.disk image → IsClosed old.engine.shape sealed image) → after.shape ≡ before.shape → IsLeftClosed after sealed
 left-closed Fact operations old before after sealed shown led closed shape = record {
   each = λ image leaves. subst (λ (s : Shape). IsClosed s sealed image) (led.measures ∙ sym shape) (closed image leaves);
 }
 
--- what is sealed where a close is refused
+-- a refused close has sealed nothing, or what a close seals
 pub refused-sealed : {D : Type 0} (state : D → DeviceState) (old : JournalValue D) (device : D) (sealed : History) (committed : ℕ) (e : JournalError)
     → CloseRefused state old device sealed committed e → IsSealedInClose old.journal.front sealed
 refused-sealed state old device sealed committed e (CloseAborted aborted same is count) = inl is
@@ -88,7 +88,7 @@ refused-sealed state old device sealed committed e (CloseFailed running is count
 refused-sealed state old device sealed committed e (NotReady running joined same is count) = inl is
 refused-sealed state old device sealed committed e (NoMemory running unsealed faults) = inl unsealed.same
 
--- what was led to with this known of the disk was so with less
+-- `IsLedTo` holds for any weaker fact
 pub led-weaker : (F G : Shape → Disk → Type 0) (operations : List Operation) (state : DeviceState) (sealed : History) (shown : Option ℕ) → ((s : Shape) (d : Disk) → F s d → G s d)
     → IsLedTo F operations state sealed shown → IsLedTo G operations state sealed shown
 led-weaker F G operations state sealed shown less to = record {

@@ -1,4 +1,4 @@
--- Operations, one after the other.
+-- Lemmas: operations performed in order.
 use Rattle.std.proofs.Common.{◌∙◌, ap, arith, inl, inr, refl, subst, sym}
 use Rattle.std.specs.Prelude.{◌≡◌, ℕ, ◌+◌, ◌<◌, ◌++◌, List, [], ◌∷◌, Option, Some, None, get_or, length, take}
 use Rattle.std.proofs.lemmas.List.{append-nil, append_assoc, take_all, take_more}
@@ -19,46 +19,46 @@ use Rattle.script_client.specs.Outcomes.Performs.{NoneYet, OneMore}
 use Rattle.script_client.specs.Performed.{HasDone, Table}
 use Rattle.script_client.proofs.Telling.{open-or_not}
 
--- these operations were performed, and the list goes on behind each; their lines were written
+-- the operations were performed, the list goes on after each, and the lines were written
 pub record PerformsSoFar {D : Type 0} (state : D → DeviceState) (honest : D → Type 0) (Last : Outcome → Type 0) (operations : List Operation) (old new : Table D)
     (before written : Option (List ℕ)) : Type 0 where
   pub outcomes : List Outcome
   pub performs : Writes before written (λ lines. Performs state honest Last operations outcomes lines old new)
   pub go : AllByRecursion (λ o. Last o → ⊥) outcomes
 
--- a further outcome behind which the list goes on
+-- the list goes on after one more outcome
 pub goes-on : (Last : Outcome → Type 0) (outcomes : List Outcome) (one : Outcome) → AllByRecursion (λ o. Last o → ⊥) outcomes → (Last one → ⊥)
     → AllByRecursion (λ o. Last o → ⊥) (outcomes ++ one ∷ [])
 goes-on Last [] one all on = (on, tt)
 goes-on Last (x ∷ outcomes) one all on = (all.0, goes-on Last outcomes one all.1 on)
 
--- lines behind others
+-- appended lines add up
 appends-more : (before mid written : Option (List ℕ)) (lines line : List ℕ) → Appends before mid lines → Appends mid written line → Appends before written (lines ++ line)
 appends-more None mid written lines line first then = tt
 appends-more (Some xs) None written lines line first then = absurd first
 appends-more (Some xs) (Some ys) None lines line first then = absurd then
 appends-more (Some xs) (Some ys) (Some zs) lines line first then = then ∙ ap (λ (bs : List ℕ). bs ++ line) first ∙ append_assoc xs lines line
 
--- no line
+-- nothing is appended
 appends-none : (written : Option (List ℕ)) → Appends written written []
 appends-none None = tt
 appends-none (Some xs) = sym (append-nil xs)
 
 module _ {D : Type 0} (state : D → DeviceState) (honest : D → Type 0) (Last : Outcome → Type 0) (operations : List Operation) where
-  -- none was performed yet
+  -- no operation was performed yet
   pub none-performed : (t : Table D) (written : Option (List ℕ)) → PerformsSoFar state honest Last [] t t written written
   none-performed t written = record { outcomes = []; performs = record { lines = []; said = appends-none written; are = NoneYet t }; go = tt }
 
   module _ (i : ℕ) (one : Operation) (outcome : Outcome) (old now new : Table D) (before mid written : Option (List ℕ)) (within : i < length operations) (is : one ≡ get_or operations i one)
       (so_far : PerformsSoFar state honest Last (take i operations) old now before mid) (done : HasDone state honest one outcome now new) where
-    -- one more was
+    -- one more operation was performed
     performs-more : Performs state honest Last (take (i + 1) operations) (so_far.outcomes ++ outcome ∷ []) (so_far.performs.lines ++ line_of one outcome) old new
     performs-more =
         subst (λ (xs : List Operation). Performs state honest Last xs (so_far.outcomes ++ outcome ∷ []) (so_far.performs.lines ++ line_of one outcome) old new)
         (sym (take_more operations i one within ∙ ap (λ (x : Operation). take i operations ++ x ∷ []) (sym is)))
         (OneMore (take i operations) so_far.outcomes so_far.performs.lines one outcome old now new so_far.performs.are so_far.go done)
 
-    -- and its line was written
+    -- its line was written too
     pub writes-more : Appends mid written (line_of one outcome) →
         Writes before written (λ lines. Performs state honest Last (take (i + 1) operations) (so_far.outcomes ++ outcome ∷ []) lines old new)
     writes-more line = record {
@@ -67,7 +67,7 @@ module _ {D : Type 0} (state : D → DeviceState) (honest : D → Type 0) (Last 
       are = performs-more;
     }
 
-    -- and the list goes on
+    -- the list goes on after it
     pub one-more-performed : Appends mid written (line_of one outcome) → (Last outcome → ⊥) → PerformsSoFar state honest Last (take (i + 1) operations) old new before written
     one-more-performed line on = record {
       outcomes = so_far.outcomes ++ outcome ∷ [];
@@ -75,7 +75,7 @@ module _ {D : Type 0} (state : D → DeviceState) (honest : D → Type 0) (Last 
       go = goes-on Last so_far.outcomes outcome so_far.go on;
     }
 
-    -- or it ends there
+    -- the list ends there
     pub last-performed : Appends mid written (line_of one outcome) → Last outcome → Writes before written (PerformsAll state honest Last operations old new)
     unfolding writes-more
     last-performed line last = record {
@@ -89,7 +89,7 @@ module _ {D : Type 0} (state : D → DeviceState) (honest : D → Type 0) (Last 
       };
     }
 
-    -- where it was refused, for that
+    -- `apply` ends there, with this refusal
     pub refused-applied : (e : JournalError) → outcome ≡ Refused e → Last (Refused e) → Appends mid written (line_of one outcome) →
         AppliesUpTo state honest Last operations old new before written e
     refused-applied e refused last line = record {
@@ -101,7 +101,7 @@ module _ {D : Type 0} (state : D → DeviceState) (honest : D → Type 0) (Last 
       last = last;
     }
 
-    -- or its line could not be written
+    -- its line could not be written
     pub unwritten-applied : AppliesSome state honest Last operations old new
     unwritten-applied = record {
       count = i + 1;
@@ -110,7 +110,7 @@ module _ {D : Type 0} (state : D → DeviceState) (honest : D → Type 0) (Last 
       performs = performs-more;
     }
 
-  -- all were performed
+  -- all operations were performed
   pub all-performed : (old new : Table D) (before written : Option (List ℕ)) (i : ℕ) → i ≡ length operations → PerformsSoFar state honest Last (take i operations) old new before written →
       Writes before written (PerformsAll state honest Last operations old new)
   all-performed old new before written i end so_far = record {
@@ -129,7 +129,7 @@ module _ {D : Type 0} (state : D → DeviceState) (honest : D → Type 0) (Last 
     go = so_far.go;
   }
 
--- the end of a handle seals nothing
+-- stopping a handle seals nothing
 pub ends-sealed : {D : Type 0} (state : D → DeviceState) (h : HandleValue) (old new : JournalValue D) → EndsHandle state h old new → new.journal.front.sealed ≡ old.journal.front.sealed
 ends-sealed state h old new ends =
     ⊎_elim

@@ -1,4 +1,4 @@
--- What names stand for behind an operation that takes what one stands for and puts something in its place.
+-- Lemmas: what names stand for after an operation that takes a slot and puts another.
 use Rattle.std.proofs.Common.{◌∙◌, ap, refl, subst, sym, zero, suc, ⊎_elim}
 use Rattle.std.specs.Prelude.{◌≡◌, ℕ, ◌<◌, ◌≤◌, List, [], ◌∷◌, length, set}
 use Rattle.std.proofs.lemmas.List.{get_or_past, length-set, set-get_or, set-set}
@@ -13,16 +13,16 @@ use Rattle.script_client.specs.declared.slots.Slot.TheVariants.{Empty, Open, Sto
 use Rattle.script_client.specs.Names.{MayStand, stands_for}
 use Rattle.script_client.specs.Performed.{HasRestarted, HasStopped, HasTouched, HasWaited, Skips, Table}
 
--- it was taken, and this was put there
+-- what is put after a take stands there
 pub put-there : (old taken new : List Slot) (name : ℕ) (slot : Slot) → taken ≡ set old name Empty → new ≡ set taken name slot → new ≡ set old name slot
 put-there old taken new name slot takes puts = puts ∙ ap (λ (names : List Slot). set names name slot) takes ∙ set-set old name Empty slot
 
--- it was taken, and put back
+-- taking and putting back changes nothing
 pub put-back : (old taken new : List Slot) (name : ℕ) (slot : Slot) → slot ≡ stands_for old name → taken ≡ set old name Empty → new ≡ set taken name slot → new ≡ old
 put-back old taken new name slot is takes puts =
     put-there old taken new name slot takes puts ∙ ap (λ (s : Slot). set old name s) is ∙ set-get_or old name Empty
 
--- a name that stands for something is one of those that there are
+-- a name that stands for something exists
 is-named : (names : List Slot) (name : ℕ) → (stands_for names name ≡ Empty → ⊥) → name < length names
 is-named names name some =
     ⊎_elim
@@ -36,7 +36,7 @@ none-there [] name = refl
 none-there (x ∷ names) zero = refl
 none-there (x ∷ names) (suc name) = none-there names name
 
--- what it stood for was taken: where that was something, anything may stand there, and else what is no open handle
+-- if something was taken, anything may stand there; else anything but an open handle
 pub may-stand : (old taken : List Slot) (name : ℕ) (was slot : Slot) → was ≡ stands_for old name → taken ≡ set old name Empty
     → ((h : HandleValue) → slot ≡ Open h → was ≡ Empty → ⊥) → MayStand taken name slot
 may-stand old taken name was slot is takes some = record {
@@ -47,13 +47,13 @@ may-stand old taken name was slot is takes some = record {
       (is-named old name (λ none. some h this (is ∙ none)));
 }
 
--- so may what it stood for
+-- what was taken may stand there again
 pub may-return : (old taken : List Slot) (name : ℕ) (slot : Slot) → slot ≡ stands_for old name → taken ≡ set old name Empty → MayStand taken name slot
 may-return old taken name slot is takes =
     may-stand old taken name slot slot is takes (λ h this none. let both : Empty ≡ Open h = sym none ∙ this in cc)
 
 module _ {D : Type 0} (state : D → DeviceState) (honest : D → Type 0) (outcome : Outcome) (old new : Table D) (skips : Skips outcome old new) where
-  -- no handle is open there
+  -- no handle is open there: the operation is skipped
   pub else-touched : (operation : Operation) (name : ℕ) (slot : Slot) → ((h : HandleValue) → slot ≡ Open h → ⊥) → HasTouched state honest operation name slot outcome old new
   else-touched operation name Empty not = skips
   else-touched operation name (Open h) not = absurd (not h refl)
@@ -72,7 +72,7 @@ module _ {D : Type 0} (state : D → DeviceState) (honest : D → Type 0) (outco
   else-stopped name (Stopped t) not = skips
   else-stopped name (Waited t) not = skips
 
-  -- nor does a ticket or a receipt stand there
+  -- no ticket or receipt is there: the wait is skipped
   pub else-waited : (name : ℕ) (slot : Slot) → ((t : TicketValue) → slot ≡ Stopped t → ⊥) → ((t : TicketValue) → slot ≡ Waited t → ⊥) → HasWaited name slot outcome old new
   else-waited name Empty not nor = skips
   else-waited name (Open h) not nor = skips

@@ -1,4 +1,4 @@
--- The moves of the machine behind the calls of a journal, one after the other.
+-- Lemmas: each journal call is some moves of the machine.
 use Rattle.std.proofs.Common.{refl, sym, ap, ap₂, subst, ◌∙◌, arith, inl, inr, ⊎_elim}
 use Rattle.std.specs.Prelude.{◌≡◌, ◌≢◌, ◌⊎◌, ℕ, ◌<◌, ◌≤◌, nat_eq, List, [], ◌∷◌, ◌++◌, length, Option, Some, None, unwrap_or, Result, Ok, Err, IfOk, IfErr, OnOk}
 use Rattle.std.specs.Map.{lookup}
@@ -35,19 +35,19 @@ use Rattle.journal_script.specs.declared.script.Operation.{Operation}
 use Rattle.journal_script.specs.Named.{IsDirectOf}
 use Rattle.script_client.specs.Told.{AreDirectsOf, HasLedTo, running_world, with_told}
 
--- a journal was led to, whose device has this state
+-- a journal on a device of this state was led to
 abbrev pub HasComeTo : (Shape → Disk → Type 0) → List Operation → {D : Type 0} → (D → DeviceState) → JournalValue D → Option ℕ → Type 0
 HasComeTo Fact operations state v shown = HasLedTo Fact operations v.journal (state v.device) shown
 
--- an event makes no direct write but of a block that one of the operations writes directly
+-- an event writes directly only blocks that one of the operations writes directly
 abbrev pub WritesOnly : List Operation → Event → Type 0
 WritesOnly operations event = (directs : List (ℕ × List ℕ)) → AreDirectsOf operations directs → AreDirectsOf operations (with_directs event directs)
 
--- the front alone makes a step
+-- a step of the front alone keeps the engine's measures
 front-shape : (old new : Engine) → new ≡ old → new.shape ≡ old.shape
 front-shape old new same = ap (λ (e : Engine). e.shape) same
 
--- the measures of an engine stay
+-- every event keeps the engine's measures
 event-shape : (old new : Journal) (disk after : Disk) (event : Event) → Happens old disk event new after → new.engine.shape ≡ old.engine.shape
 event-shape old new disk after (FrontStep event) happens = front-shape old.engine new.engine happens.engine
 event-shape old new disk after Seal happens = ap (λ (e : Engine). e.shape) happens.engine.after
@@ -92,7 +92,7 @@ goes Fact operations event old new before after shown only led happens shape = r
   greatest = led.greatest;
 }
 
--- what stays was led to
+-- an unchanged journal was led to
 pub stays : (Fact : Shape → Disk → Type 0) (operations : List Operation) (old new : Journal) (before after : DeviceState) (shown : Option ℕ)
     → HasLedTo Fact operations old before shown → new ≡ old → after.shape ≡ before.shape → after.disk ≡ before.disk → HasLedTo Fact operations new after shown
 stays Fact operations old new before after shown led journal shape disk =
@@ -113,7 +113,7 @@ stays Fact operations old new before after shown led journal shape disk =
       greatest = led.greatest;
     }
 
--- a transaction that the mark has come to is answered, and noted
+-- a transaction up to the mark may be answered, and is noted
 pub answers : (Fact : Shape → Disk → Type 0) (operations : List Operation) (j : Journal) (state : DeviceState) (shown new : Option ℕ) (tid : ℕ) → HasLedTo Fact operations j state shown → tid ≤ j.front.mark
     → new ≡ with_told tid shown → HasLedTo Fact operations j state new
 answers Fact operations j state shown new tid led marked noted = record {
@@ -132,12 +132,12 @@ answers Fact operations j state shown new tid led marked noted = record {
   greatest = noted ∙ ap (with_told tid) led.greatest;
 }
 
--- what is the same was led to
+-- an equal journal was led to
 pub same : (Fact : Shape → Disk → Type 0) (operations : List Operation) {D : Type 0} (state : D → DeviceState) (old new : JournalValue D) (shown : Option ℕ) → new ≡ old
     → HasComeTo Fact operations state old shown → HasComeTo Fact operations state new shown
 same Fact operations state old new shown is led = subst (λ (v : JournalValue _). HasComeTo Fact operations state v shown) (sym is) led
 
--- a step that makes no device call
+-- a step of the journal is a move
 pub does : (Fact : Shape → Disk → Type 0) (operations : List Operation) {D : Type 0} (state : D → DeviceState) (old new : JournalValue D) (shown : Option ℕ) (event : Event)
     → WritesOnly operations event → Does state old event new → (state new.device).shape ≡ (state old.device).shape → HasComeTo Fact operations state old shown → HasComeTo Fact operations state new shown
 does Fact operations state old new shown event only is shape led = goes Fact operations event old.journal new.journal (state old.device) (state new.device) shown only led is shape
@@ -213,7 +213,7 @@ read-comes Fact operations state old new shown honest h b v (Ok x) is reads refu
     does Fact operations state old new shown (ReadBlock h.number b v) (λ directs written. written) (reads is) device.shape led
 read-comes Fact operations state old new shown honest h b v (Err e) is reads refused device led = read_refused-comes Fact operations state old new shown h b e refused device led
 
--- a call that makes one step of the front, or changes nothing
+-- a call makes one step of the front, or changes nothing
 pub front-comes : (Fact : Shape → Disk → Type 0) (operations : List Operation) {D T E : Type 0} (state : D → DeviceState) (old new : JournalValue D) (shown : Option ℕ) (event : FrontEvent) (result : Result T E)
     → OnOk result (Does state old (FrontStep event) new) → IfErr result (λ e. new ≡ old) → new.device ≡ old.device
     → HasComeTo Fact operations state old shown → HasComeTo Fact operations state new shown
@@ -257,7 +257,7 @@ pub sync_direct-comes : (Fact : Shape → Disk → Type 0) (operations : List Op
 sync_direct-comes Fact operations state old new shown (Ok x) did refused shape led = does Fact operations state old new shown DirectSync (λ directs written. written) did shape led
 sync_direct-comes Fact operations state old new shown (Err e) did refused shape led = sync_refused-comes Fact operations state old new shown e refused shape led
 
--- the handle has just these credits left, or it has not
+-- the handle has exactly these credits left, or not
 decide-left : (found : Option ℕ) (left : ℕ) → (found ≡ Some left) ⊎ (found ≡ Some left → ⊥)
 decide-left None left = inr (none-some left)
 decide-left (Some n) left =

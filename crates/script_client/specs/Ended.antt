@@ -31,9 +31,9 @@ world_in phase opening j state directs answered = record {
   past = [];
 }
 
--- Moves of the machine led from a journal that was just made, on a device of which this fact was known then, to what is left at
--- its end: its device, the transactions that were sealed, and the greatest that a wait or a status answered committed. Its direct
--- writes are those of these operations. The journal runs still, or its log was closed, or a failure or a refusal ended it.
+-- Moves of the machine lead from a new journal, on a device whose disk satisfied `Fact`, to this final state. `shown` is the greatest
+-- transaction that a wait or a status answered committed. Each direct write is of a block that an operation writes directly. The phase is
+-- open: the journal may still run, be closed, or have ended in a failure or a refusal.
 pub record IsEnded (Fact : Shape → Disk → Type 0) (operations : List Operation) (state : DeviceState) (sealed : History) (shown : Option ℕ) : Type 0 where
   pub opening : Disk
   pub fact : Fact state.shape opening
@@ -49,22 +49,22 @@ pub record IsEnded (Fact : Shape → Disk → Type 0) (operations : List Operati
   pub greatest : shown ≡ greatest_of answered
   pub sealed_is : sealed ≡ journal.front.sealed
 
--- each image that a stop may leave of the device has a clean log, and opens to all of these transactions
+-- every crash image of the device has a clean log, and opens to all of these transactions
 pub record IsLeftClosed (state : DeviceState) (sealed : History) : Type 0 where
   pub each : (image : Image) → Leaves state.disk image → IsClosed state.shape sealed image
 
--- handles were stopped, one after the other
+-- handles were stopped, one after another
 pub data StopsHandles {D : Type 0} (state : D → DeviceState) : JournalValue D → JournalValue D → Type 0 where
   NoneStops : (j : JournalValue D) → StopsHandles state j j
   OneStops : (h : HandleValue) (old mid new : JournalValue D) → StopsHandles state old mid → EndsHandle state h mid new → StopsHandles state old new
 
--- why a journal is not closed: a handle is open, and nothing was done; or for the causes of a close
+-- why a journal is not closed: a handle is open and nothing was done, or the close was refused
 pub data WhyUnclosed {D : Type 0} (state : D → DeviceState) (old : JournalValue D) (device : D) (sealed : History) (committed : ℕ) (e : JournalError) : Type 0 where
   HandleIsOpen : 0 < length old.journal.front.open_handles → device ≡ old.device → sealed ≡ old.journal.front.sealed → committed ≡ old.journal.engine.committed →
       e ≡ NotRunning → WhyUnclosed state old device sealed committed e
   IsRefused : CloseRefused state old device sealed committed e → WhyUnclosed state old device sealed committed e
 
--- handles of it were stopped, and then it was not closed, for this cause
+-- handles were stopped, and then the journal was not closed, for this cause
 pub record IsUnclosed {D : Type 0} (state : D → DeviceState) (old : JournalValue D) (device : D) (sealed : History) (e : JournalError) : Type 0 where
   pub stopped : JournalValue D
   pub stops : StopsHandles state old stopped

@@ -1,4 +1,4 @@
--- The lines that are printed of operations: what was performed, and what it came to.
+-- The line that is printed for an operation: the operation, and its outcome.
 use Rattle.std.specs.Prelude.{ℕ, ◌/◌, ◌%◌, ◌++◌, false, List, [], ◌∷◌, codes}
 use Rattle.std.specs.Fmt.{decimal, digit_glyph}
 use Rattle.std.specs.List.{flat_map}
@@ -14,18 +14,18 @@ use Rattle.log_model.specs.Dump.{newline}
 use Rattle.script_client.specs.declared.outcome.Outcome.{Outcome}
 use Rattle.script_client.specs.declared.outcome.Outcome.TheVariants.{Begins, CheckTurn, Committed, Done, Open, Refused, Skipped, Transaction, Turn}
 
--- a byte, in two hex digits, and bytes in theirs
+-- a byte as two hex digits, and bytes as hex digits
 abbrev pub hex_digits : ℕ → List ℕ
 hex_digits byte = digit_glyph false (byte / 16) ∷ digit_glyph false (byte % 16) ∷ []
 
 abbrev pub hex_text : List ℕ → List ℕ
 hex_text bytes = flat_map hex_digits bytes
 
--- what was done to a transaction
+-- an action on a transaction: the word and the number
 abbrev pub done_text : List ℕ → ℕ → List ℕ
 done_text done tid = done ++ codes " " ++ decimal tid
 
--- what a commit turn did, and what a checkpoint turn did
+-- the outcome of a commit turn, and of a checkpoint turn
 abbrev pub turn_text : CommitTurn → List ℕ
 turn_text Idle = codes "idle"
 turn_text Waiting = codes "waiting"
@@ -38,11 +38,11 @@ check_turn_text IdleCheck = codes "idle"
 check_turn_text StepCheck = codes "step"
 check_turn_text (Released tid) = done_text (codes "released") tid
 
--- why an operation is refused: the number and the name of the refusal
+-- a refusal: its number and its name
 abbrev pub refused_text : JournalError → List ℕ
 refused_text e = codes "refused " ++ decimal (number_of e) ++ codes " " ++ refusal_text e
 
--- what an operation came to
+-- an outcome
 abbrev pub outcome_text : Outcome → List ℕ
 outcome_text (Transaction tid) = decimal tid
 outcome_text Done = codes "ok"
@@ -54,6 +54,5 @@ outcome_text Open = codes "open"
 outcome_text Skipped = codes "skipped"
 outcome_text (Refused e) = refused_text e
 
--- the line of an operation
 abbrev pub line_of : Operation → Outcome → List ℕ
 line_of operation outcome = operation_text operation ++ codes " = " ++ outcome_text outcome ++ newline ∷ []

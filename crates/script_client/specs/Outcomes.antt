@@ -1,4 +1,4 @@
--- What a list of operations came to, one after the other.
+-- The outcomes of a list of operations, performed in order.
 use Rattle.std.specs.Prelude.{◌≡◌, ◌⊎◌, ⊤, ℕ, ◌++◌, List, [], ◌∷◌, Option, Result, Err, IfErr, IsOk, MatchResult, length, take}
 use Rattle.std.specs.Io.KnownBytes.{Appends}
 use Rattle.std.specs.List.{AllByRecursion}
@@ -26,65 +26,64 @@ use Rattle.script_client.specs.Performed.{HasDone, IsBegun, Table}
 use Rattle.script_client.specs.Shown.{IsLeftOf}
 use Rattle.script_client.specs.Told.{ClientValue}
 
--- no operation is performed behind one that came to this
+-- `perform` stops after this outcome
 abbrev pub IsLast : AfterFailure → Outcome → Type 0
 IsLast after outcome = (after ≡ End) × (outcome ≡ Refused Device)
 
--- nor, of those that are applied, behind one that was refused so
+-- `apply` stops after a refusal for this cause, and after this outcome
 abbrev pub EndsApply : AfterRefusal → JournalError → Type 0
 EndsApply after e = (after ≡ EndThere) ⊎ (e ≡ Device)
 
 abbrev pub IsLastApplied : AfterRefusal → Outcome → Type 0
 IsLastApplied after outcome = (e : JournalError) × (outcome ≡ Refused e) × EndsApply after e
 
--- these operations were performed, in order, came to these outcomes, and have these lines; behind none of them but the last the
--- list was to end
+-- the operations were performed in order, with these outcomes and lines; only the last outcome may satisfy `Last`
 pub data Performs {D : Type 0} (state : D → DeviceState) (honest : D → Type 0) (Last : Outcome → Type 0) : List Operation → List Outcome → List ℕ → Table D → Table D → Type 0 where
   NoneYet : (t : Table D) → Performs state honest Last [] [] [] t t
   OneMore : (operations : List Operation) (outcomes : List Outcome) (lines : List ℕ) (one : Operation) (outcome : Outcome) (t u v : Table D) →
       Performs state honest Last operations outcomes lines t u → AllByRecursion (λ o. Last o → ⊥) outcomes → HasDone state honest one outcome u v →
       Performs state honest Last (operations ++ one ∷ []) (outcomes ++ outcome ∷ []) (lines ++ line_of one outcome) t v
 
--- the list was to end behind its last outcome
+-- the last outcome satisfies `Last`
 abbrev pub EndsHere : (Last : Outcome → Type 0) → List Outcome → Type 0
 EndsHere Last outcomes = (before : List Outcome) × (last : Outcome) × (outcomes ≡ before ++ last ∷ []) × Last last
 
--- operations were performed, all of them, or those up to the one behind which the list was to end, and these are their lines
+-- all operations were performed, or those up to the first outcome that satisfies `Last`; these are their lines
 pub record PerformsAll {D : Type 0} (state : D → DeviceState) (honest : D → Type 0) (Last : Outcome → Type 0) (operations : List Operation) (old new : Table D) (lines : List ℕ) : Type 0 where
   pub count : ℕ
   pub outcomes : List Outcome
   pub performs : Performs state honest Last (take count operations) outcomes lines old new
   pub all : (count ≡ length operations) ⊎ EndsHere Last outcomes
 
--- so they were from here on, and this is left: the device of the journal, the transactions that were sealed, and the greatest that a
--- wait or a status showed committed
+-- the same from this start; at the end these are left: the journal's device, the sealed transactions, and the greatest that a wait or a
+-- status showed committed
 pub record PerformsTo {D : Type 0} (state : D → DeviceState) (honest : D → Type 0) (start : Table D) (operations : List Operation) (after : AfterFailure)
     (device : D) (sealed : History) (shown : Option ℕ) (lines : List ℕ) : Type 0 where
   pub last : Table D
   pub all : PerformsAll state honest (IsLast after) operations start last lines
   pub left : IsLeftOf last.client device sealed shown
 
--- so they were on a journal that was just made on an opened log
+-- the same from a new journal on an opened log
 pub record HasPerformed {D : Type 0} (state : D → DeviceState) (honest : D → Type 0) (opened : OpenedValue D) (operations : List Operation) (after : AfterFailure)
     (device : D) (sealed : History) (shown : Option ℕ) (lines : List ℕ) : Type 0 where
   pub start : Table D
   pub begun : IsBegun state opened operations start
   pub performs : PerformsTo state honest start operations after device sealed shown lines
 
--- lines were written, and these are of what was done
+-- the lines that were written satisfy `AreOf`
 pub record Writes (before written : Option (List ℕ)) (AreOf : List ℕ → Type 0) : Type 0 where
   pub lines : List ℕ
   pub said : Appends before written lines
   pub are : AreOf lines
 
--- all operations of a list were performed, and behind none of them it was to end; their lines were written
+-- all operations were performed, no outcome satisfies `Last`, and the lines were written
 pub record AppliesAll {D : Type 0} (state : D → DeviceState) (honest : D → Type 0) (Last : Outcome → Type 0) (operations : List Operation) (old new : Table D)
     (before written : Option (List ℕ)) : Type 0 where
   pub outcomes : List Outcome
   pub performs : Writes before written (λ lines. Performs state honest Last operations outcomes lines old new)
   pub go : AllByRecursion (λ o. Last o → ⊥) outcomes
 
--- those up to one that was refused so were, and behind that the list was to end; their lines were written
+-- the operations were performed up to one that was refused, whose outcome satisfies `Last`; the lines were written
 pub record AppliesUpTo {D : Type 0} (state : D → DeviceState) (honest : D → Type 0) (Last : Outcome → Type 0) (operations : List Operation) (old new : Table D)
     (before written : Option (List ℕ)) (e : JournalError) : Type 0 where
   pub count : ℕ
@@ -92,14 +91,14 @@ pub record AppliesUpTo {D : Type 0} (state : D → DeviceState) (honest : D → 
   pub performs : Writes before written (λ lines. Performs state honest Last (take count operations) (outcomes ++ Refused e ∷ []) lines old new)
   pub last : Last (Refused e)
 
--- those up to one whose line could not be written were
+-- the operations were performed up to one whose line could not be written
 pub record AppliesSome {D : Type 0} (state : D → DeviceState) (honest : D → Type 0) (Last : Outcome → Type 0) (operations : List Operation) (old new : Table D) : Type 0 where
   pub count : ℕ
   pub outcomes : List Outcome
   pub lines : List ℕ
   pub performs : Performs state honest Last (take count operations) outcomes lines old new
 
--- why operations that are applied ended before the last one
+-- why `apply` ended before the last operation
 abbrev pub EndsFor : {D : Type 0} → (D → DeviceState) → (honest : D → Type 0) → (Last : Outcome → Type 0) → List Operation → Table D → Table D → (before written : Option (List ℕ)) → Fault → Type 0
 EndsFor state honest Last operations old new before written (RefusedAll e) = AppliesUpTo state honest Last operations old new before written e
 EndsFor state honest Last operations old new before written (Output e) = AppliesSome state honest Last operations old new
@@ -108,28 +107,28 @@ abbrev pub Applies : {D : Type 0} → (D → DeviceState) → (honest : D → Ty
 Applies state honest Last operations old new before written applied =
     MatchResult applied (λ _. AppliesAll state honest Last operations old new before written) (EndsFor state honest Last operations old new before written)
 
--- why a close that ended so was not done
+-- the cause of a close that was not done
 abbrev pub IsUnclosedFor : {D : Type 0} → (D → DeviceState) → JournalValue D → (device : D) → History → Fault → Type 0
 IsUnclosedFor state old device sealed fault = (e : JournalError) × (fault ≡ RefusedAll e) × IsUnclosed state old device sealed e
 
--- what is left of a journal that was closed, or whose close was refused: at its end all that the operations had sealed was sealed, and the
--- running transaction where a handle had joined it; a refused close may not have come to that one
+-- what is left of a journal that was closed, or whose close was refused. A close seals the running transaction if a handle had joined it; a
+-- refused close may end before that
 pub record IsClosedAs {D : Type 0} (state : D → DeviceState) (last : ClientValue D) (device : D) (sealed : History) (shown : Option ℕ) (end : Result (Unit {0}) Fault) : Type 0 where
   pub sealed_is : MatchResult end (λ _. sealed ≡ closing last.journal.journal.front) (λ _. IsSealedInClose last.journal.journal.front sealed)
   pub shown_is : shown ≡ last.shown
   pub why : IfErr end (IsUnclosedFor state last.journal device sealed)
 
--- what is left behind the last operation, where all were performed
+-- what is left if all operations were performed
 abbrev pub EndsAs : {D : Type 0} → (D → DeviceState) → Ending → ClientValue D → (device : D) → History → (shown : Option ℕ) → Result (Unit {0}) Fault → Type 0
 EndsAs state Stay last device sealed shown end = IsOk end × IsLeftOf last device sealed shown
 EndsAs state Close last device sealed shown end = IsClosedAs state last device sealed shown end
 
--- what is left of operations that were applied so: where they ended before the last one, that was why, and the journal is as they left it
+-- what is left of applied operations; if they ended early, `end` says why, and the journal is as they left it
 abbrev pub IsAppliedAs : {D : Type 0} → (D → DeviceState) → (applied : Result (Unit {0}) Fault) → Ending → ClientValue D → (device : D) → History → (shown : Option ℕ) → Result (Unit {0}) Fault → Type 0
 IsAppliedAs state applied ending last device sealed shown end =
     MatchResult applied (λ _. EndsAs state ending last device sealed shown end) (λ fault. (end ≡ Err fault) × IsLeftOf last device sealed shown)
 
--- so operations were applied to a journal that was just made on an opened log
+-- the operations were applied to a new journal on an opened log
 pub record HasApplied {D : Type 0} (state : D → DeviceState) (honest : D → Type 0) (opened : OpenedValue D) (operations : List Operation) (after : AfterRefusal) (ending : Ending)
     (device : D) (sealed : History) (shown : Option ℕ) (end : Result (Unit {0}) Fault) (before written : Option (List ℕ)) : Type 0 where
   pub start : Table D
@@ -139,7 +138,7 @@ pub record HasApplied {D : Type 0} (state : D → DeviceState) (honest : D → T
   pub applies : Applies state honest (IsLastApplied after) operations start last before written applied
   pub ends : IsAppliedAs state applied ending last.client device sealed shown end
 
--- why operations were not performed: there was no memory for the journal, or a line could not be written
+-- why operations were not performed: no memory for the journal, or a line could not be written
 abbrev pub IsUnperformed : Fault → Type 0
 IsUnperformed (RefusedAll e) = e ≡ Memory
 IsUnperformed (Output e) = ⊤

@@ -30,29 +30,29 @@ use Rattle.script_client.specs.Shown.{IsNewClient, IsNextHandle, IsReceiptTaken,
 use Rattle.script_client.specs.Steps.{Steps}
 use Rattle.script_client.specs.Told.{ClientValue, with_told}
 
--- the client of a journal, and what the names of its script stand for
+-- a client, and what the names of its script stand for
 pub record Table (D : Type 0) : Type 0 where
   pub client : ClientValue D
   pub names : List Slot
 
--- a journal was just made on an opened log, its client is to perform these operations, and no name stands for anything
+-- a new journal on an opened log: its client is to perform these operations, and no name stands for anything
 pub record IsBegun {D : Type 0} (state : D → DeviceState) (opened : OpenedValue D) (operations : List Operation) (t : Table D) : Type 0 where
   pub client : IsNewClient state opened operations t.client
   pub names : t.names ≡ replicate 10000 Empty
 
--- a block of so many bytes: these, at most one block of them, and zeros behind them
+-- a block of `size` bytes: the given ones, cut at `size`, then zeros
 abbrev pub block_from : ℕ → List ℕ → List ℕ
 block_from size bytes = take size bytes ++ replicate (size - length bytes) 0
 
--- the operation did this, or it was refused so
+-- the operation did this, or was refused for a cause `Why`
 abbrev pub OrRefused : Outcome → (Did : Type 0) → (Why : JournalError → Type 0) → Type 0
 OrRefused outcome Did Why = Did ⊎ ((e : JournalError) × (outcome ≡ Refused e) × Why e)
 
--- it did not run
+-- the operation did not run
 abbrev pub Skips : {D : Type 0} → Outcome → Table D → Table D → Type 0
 Skips outcome old new = (outcome ≡ Skipped) × (new.client ≡ old.client) × (new.names ≡ old.names)
 
--- a handle started, for which the name stands from now on
+-- a handle started, and the name stands for it
 pub record StartsNamed {D : Type 0} (state : D → DeviceState) (name credits : ℕ) (outcome : Outcome) (old new : Table D) : Type 0 where
   pub handle : HandleValue
   pub outcome_is : outcome ≡ Transaction handle.tid
@@ -60,31 +60,31 @@ pub record StartsNamed {D : Type 0} (state : D → DeviceState) (name credits : 
   pub next : IsNextHandle old.client.journal.journal.front credits handle
   pub names : new.names ≡ set old.names name (Open handle)
 
--- or none did, and it stands for nothing
+-- the start was refused, and the name stands for nothing
 pub record StartsNone {D : Type 0} (name credits : ℕ) (old new : Table D) (e : JournalError) : Type 0 where
   pub why : StartRefused old.client.journal.journal.front credits e
   pub same : new.client.journal ≡ old.client.journal
   pub names : new.names ≡ set old.names name Empty
 
--- where the name is free a handle starts, or none does; else the operation does not run
+-- if the name is free, a handle starts or the start is refused; else the operation is skipped
 abbrev pub HasStarted : {D : Type 0} → (D → DeviceState) → (name credits : ℕ) → Outcome → Table D → Table D → Type 0
 HasStarted state name credits outcome old new =
     (IsFree old.names name × OrRefused outcome (StartsNamed state name credits outcome old new) (StartsNone name credits old new))
     ⊎ ((IsFree old.names name → ⊥) × Skips outcome old new)
 
--- a block is written through a handle, with these bytes and zeros behind them
+-- a block is written through a handle: these bytes, then zeros
 abbrev pub WritesBlock : {D : Type 0} → (D → DeviceState) → ℕ → List ℕ → Outcome → (h left : HandleValue) → (old new : JournalValue D) → Type 0
 WritesBlock state b bytes outcome h left old new = OrRefused outcome
     ((outcome ≡ Done) × Does state old (FrontStep (WriteBlock h.number b (block_from (state old.device).shape.block_size bytes))) new × Spends old.journal.front b h left)
     (λ e. (TouchRefused old.journal.front h b e ⊎ (e ≡ Memory)) × (new ≡ old) × (left ≡ h))
 
--- a block is read through a handle, what it sees is noted, and the answer tells how it begins
+-- a block is read through a handle; the read is noted, and the outcome is the block's first eight bytes
 abbrev pub ReadsBlock : {D : Type 0} → (D → DeviceState) → (honest : D → Type 0) → ℕ → Outcome → HandleValue → (old new : JournalValue D) → Type 0
 ReadsBlock state honest b outcome h old new = OrRefused outcome
     ((v : List ℕ) × (outcome ≡ Begins (block_from 8 v)) × NotesRead state old h b v new × (honest new.device → Does state old (ReadBlock h.number b v) new))
     (λ e. ReadRefused state old h b new e ⊎ ((e ≡ Memory) × (new ≡ old)))
 
--- what is done through an open handle: a write, a revoke, further credits, or a read
+-- an operation through an open handle: a write, a revoke, an extension, or a read
 abbrev pub Touches : {D : Type 0} → (D → DeviceState) → (honest : D → Type 0) → Operation → Outcome → (h left : HandleValue) → (old new : JournalValue D) → Type 0
 Touches state honest (Write name b bytes) outcome h left old new = WritesBlock state b bytes.items outcome h left old new
 Touches state honest (Revoke name b) outcome h left old new = OrRefused outcome
@@ -108,7 +108,7 @@ Touches state honest (Wait name) outcome h left old new = ⊥
 Touches state honest (WriteDirect b bytes) outcome h left old new = ⊥
 Touches state honest SyncDirect outcome h left old new = ⊥
 
--- the operations that do so
+-- the operations that `Touches` covers
 abbrev pub IsTouch : Operation → Type 0
 IsTouch (Write name b bytes) = ⊤
 IsTouch (Revoke name b) = ⊤
@@ -128,7 +128,7 @@ IsTouch (Wait name) = ⊥
 IsTouch (WriteDirect b bytes) = ⊥
 IsTouch SyncDirect = ⊥
 
--- it is done through the handle that the name stands for
+-- the operation goes through the handle that the name stands for; it is skipped if there is none
 pub record TouchesNamed {D : Type 0} (state : D → DeviceState) (honest : D → Type 0) (operation : Operation) (name : ℕ) (outcome : Outcome) (h : HandleValue) (old new : Table D) : Type 0 where
   pub left : HandleValue
   pub touches : Touches state honest operation outcome h left old.client.journal new.client.journal
@@ -140,7 +140,7 @@ HasTouched state honest operation name Empty outcome old new = Skips outcome old
 HasTouched state honest operation name (Stopped ticket) outcome old new = Skips outcome old new
 HasTouched state honest operation name (Waited receipt) outcome old new = Skips outcome old new
 
--- the handle stopped, and another one stands in its place
+-- the handle was stopped, and the name stands for a new one
 pub record RestartsNamed {D : Type 0} (state : D → DeviceState) (name credits : ℕ) (outcome : Outcome) (h : HandleValue) (old new : Table D) : Type 0 where
   pub handle : HandleValue
   pub outcome_is : outcome ≡ Transaction handle.tid
@@ -148,7 +148,7 @@ pub record RestartsNamed {D : Type 0} (state : D → DeviceState) (name credits 
   pub next : IsNextHandle old.client.journal.journal.front credits handle
   pub names : new.names ≡ set old.names name (Open handle)
 
--- or it stopped, and its ticket does
+-- the restart was refused, and the name stands for the stopped handle's ticket
 pub record RestartsNone {D : Type 0} (state : D → DeviceState) (name credits : ℕ) (h : HandleValue) (old new : Table D) (e : JournalError) : Type 0 where
   pub why : RestartRefused state h credits old.client.journal new.client.journal e
   pub names : new.names ≡ set old.names name (Stopped (ticket_of h))
@@ -159,7 +159,7 @@ HasRestarted state name credits Empty outcome old new = Skips outcome old new
 HasRestarted state name credits (Stopped ticket) outcome old new = Skips outcome old new
 HasRestarted state name credits (Waited receipt) outcome old new = Skips outcome old new
 
--- the handle that the name stands for stopped
+-- the handle that the name stands for was stopped
 abbrev pub HasStopped : {D : Type 0} → (D → DeviceState) → (name : ℕ) → Slot → Outcome → Table D → Table D → Type 0
 HasStopped state name (Open h) outcome old new =
     (outcome ≡ Transaction h.tid) × EndsHandle state h old.client.journal new.client.journal × (new.names ≡ set old.names name (Stopped (ticket_of h)))
@@ -167,7 +167,7 @@ HasStopped state name Empty outcome old new = Skips outcome old new
 HasStopped state name (Stopped ticket) outcome old new = Skips outcome old new
 HasStopped state name (Waited receipt) outcome old new = Skips outcome old new
 
--- the commit of the transaction is asked for; that of a receipt is committed already; and once the device has failed both are refused
+-- a commit was requested. A receipt's transaction is already committed. Once the device has failed, both are refused
 abbrev pub HasRequested : {D : Type 0} → (D → DeviceState) → Slot → Outcome → Table D → Table D → Type 0
 HasRequested state (Stopped ticket) outcome old new = (new.names ≡ old.names) × OrRefused outcome
     ((outcome ≡ Done) × Requests state ticket.tid old.client.journal new.client.journal)
@@ -178,13 +178,13 @@ HasRequested state (Waited receipt) outcome old new = (new.names ≡ old.names) 
 HasRequested state Empty outcome old new = Skips outcome old new
 HasRequested state (Open h) outcome old new = Skips outcome old new
 
--- the running transaction was locked, if a handle had joined it, and its number told; or the device has failed before
+-- the running transaction was locked if a handle had joined it, and its number is the outcome; or the device has failed
 abbrev pub Locks : {D : Type 0} → (D → DeviceState) → Outcome → JournalValue D → JournalValue D → Type 0
 Locks state outcome old new = OrRefused outcome
     ((outcome ≡ Transaction old.journal.front.running.tid) × Requests state old.journal.front.running.tid old new)
     (λ e. (e ≡ Aborted) × (old.journal.front.aborted ≡ true) × (new ≡ old))
 
--- the most turns that are taken in a row
+-- the most turns that one operation takes
 abbrev pub most_turns : ℕ
 most_turns = 2000000
 
@@ -195,14 +195,14 @@ IsIdle turn = (turn ≡ IdleTurn) ⊎ (turn ≡ WaitingTurn)
 abbrev pub WasIdle : {D : Type 0} → (D → DeviceState) → JournalValue D → JournalValue D → Type 0
 WasIdle state old new = (turn : CommitTurn) × IsIdle turn × TurnDid state turn old new
 
--- one turn of a journal that had something to do
+-- one turn that had something to do
 abbrev pub TakesTurn : {D : Type 0} → (D → DeviceState) → JournalValue D → JournalValue D → Type 0
 TakesTurn state old new = (turn : CommitTurn) × (IsIdle turn → ⊥) × TurnDid state turn old new
 
 abbrev pub TakesCheckTurn : {D : Type 0} → (D → DeviceState) → JournalValue D → JournalValue D → Type 0
 TakesCheckTurn state old new = (turn : CheckTurn) × (turn ≢ IdleCheck) × CheckTurnDid state turn old new
 
--- turns were taken up to the first that had nothing to do, or was refused
+-- turns were taken up to the first that had nothing to do or was refused
 pub record TakesTurns {D : Type 0} (state : D → DeviceState) (outcome : Outcome) (old new : JournalValue D) : Type 0 where
   pub count : ℕ
   pub before : JournalValue D
@@ -219,46 +219,46 @@ pub record TakesCheckTurns {D : Type 0} (state : D → DeviceState) (outcome : O
       ((outcome ≡ CameToCheckTurn IdleCheck) × (CheckTurnDid state IdleCheck before new ⊎ ((count ≡ most_turns) × (new ≡ before))))
       (CheckTurnRefused state before new)
 
--- what a status of this transaction is, as an operation tells it
+-- a ticket's status as an outcome
 abbrev pub told_of : ℕ → TicketStatus → Outcome
 told_of tid IsCommitted = Committed tid
 told_of tid IsOpen = StillOpen
 
--- the transaction is shown committed, and that is noted; or it is not
+-- the transaction is committed, and that is noted; or it is still open
 abbrev pub Tells : {D : Type 0} → (committed : Outcome) → (tid : ℕ) → Outcome → ClientValue D → ClientValue D → Type 0
 Tells committed tid outcome old new =
     ((outcome ≡ committed) × (tid ≤ old.journal.journal.front.mark) × (new ≡ record old { shown = with_told tid old.shown }))
     ⊎ ((outcome ≡ StillOpen) × (old.journal.journal.front.mark < tid) × (new ≡ old))
 
--- the status of what the name stands for
+-- the status of the name's ticket or receipt
 abbrev pub HasStatus : {D : Type 0} → Slot → Outcome → Table D → Table D → Type 0
 HasStatus (Stopped ticket) outcome old new = (new.names ≡ old.names) × Tells (Committed ticket.tid) ticket.tid outcome old.client new.client
 HasStatus (Waited receipt) outcome old new = (new.names ≡ old.names) × Tells (Committed receipt.tid) receipt.tid outcome old.client new.client
 HasStatus Empty outcome old new = Skips outcome old new
 HasStatus (Open h) outcome old new = Skips outcome old new
 
--- a receipt is taken where the transaction is committed, and the name stands for it from now on; of any other nothing is awaited; and
--- behind a failure of the device the wait for a committed one is refused
+-- a wait for a ticket. If the transaction is committed, the name stands for its receipt. An open one is not awaited. Once the device has
+-- failed, the wait for a committed one is refused
 abbrev pub WaitsFor : {D : Type 0} → TicketValue → Outcome → Slot → ClientValue D → ClientValue D → Type 0
 WaitsFor ticket outcome behind old new =
     ((outcome ≡ Transaction ticket.tid) × IsReceiptTaken ticket old new × (behind ≡ Waited ticket))
     ⊎ (((outcome ≡ StillOpen) × (old.journal.journal.front.mark < ticket.tid) × (new ≡ old) × (behind ≡ Stopped ticket))
     ⊎ ((e : JournalError) × (outcome ≡ Refused e) × (ticket.tid ≤ old.journal.journal.front.mark) × IsRefusedAborted old e × (new ≡ old) × (behind ≡ Stopped ticket)))
 
--- a receipt that was taken before is told again, where the device has not failed
+-- a wait for a receipt: its transaction is answered again, unless the device has failed
 abbrev pub TellsAgain : {D : Type 0} → ℕ → Outcome → ClientValue D → ClientValue D → Type 0
 TellsAgain tid outcome old new =
     (Tells (Transaction tid) tid outcome old new × (old.journal.journal.engine.aborted ≡ false))
     ⊎ ((outcome ≡ Refused Aborted) × (old.journal.journal.engine.aborted ≡ true) × (new ≡ old))
 
--- a wait by what the name stands for, and what it stands for then
+-- a wait for what the name stands for
 abbrev pub HasWaited : {D : Type 0} → (name : ℕ) → Slot → Outcome → Table D → Table D → Type 0
 HasWaited name (Stopped ticket) outcome old new = (behind : Slot) × WaitsFor ticket outcome behind old.client new.client × (new.names ≡ set old.names name behind)
 HasWaited name (Waited receipt) outcome old new = TellsAgain receipt.tid outcome old.client new.client × (new.names ≡ set old.names name (Waited receipt))
 HasWaited name Empty outcome old new = Skips outcome old new
 HasWaited name (Open h) outcome old new = Skips outcome old new
 
--- the block was written directly, with these bytes and zeros behind them, or that was refused
+-- a block was written directly, these bytes and then zeros, or that was refused
 abbrev pub WritesDirectly : {D : Type 0} → (D → DeviceState) → ℕ → List ℕ → Outcome → JournalValue D → JournalValue D → Type 0
 WritesDirectly state b bytes outcome old new =
     let block = block_from (state old.device).shape.block_size bytes in
@@ -270,18 +270,18 @@ WritesDirectly state b bytes outcome old new =
 abbrev pub SyncsDirectly : {D : Type 0} → (D → DeviceState) → Outcome → JournalValue D → JournalValue D → Type 0
 SyncsDirectly state outcome old new = OrRefused outcome ((outcome ≡ Done) × Does state old DirectSync new) (DirectSyncRefused state old new)
 
--- one turn was taken, or it was refused
+-- one turn was taken, or refused
 abbrev pub TakesOneTurn : {D : Type 0} → (D → DeviceState) → Outcome → JournalValue D → JournalValue D → Type 0
 TakesOneTurn state outcome old new = OrRefused outcome ((turn : CommitTurn) × (outcome ≡ CameToTurn turn) × TurnDid state turn old new) (TurnRefused state old new)
 
 abbrev pub TakesOneCheckTurn : {D : Type 0} → (D → DeviceState) → Outcome → JournalValue D → JournalValue D → Type 0
 TakesOneCheckTurn state outcome old new = OrRefused outcome ((turn : CheckTurn) × (outcome ≡ CameToCheckTurn turn) × CheckTurnDid state turn old new) (CheckTurnRefused state old new)
 
--- only the journal has changed, and so
+-- only the journal changed, by `Did`
 abbrev pub OnJournal : {D : Type 0} → (JournalValue D → JournalValue D → Type 0) → Table D → Table D → Type 0
 OnJournal Did old new = Did old.client.journal new.client.journal × (new.names ≡ old.names)
 
--- what an operation came to, and what it did: to the journal, by the handle or the ticket that its name stands for, and to the names
+-- the outcome of an operation, and what it did to the journal and to the names
 abbrev pub HasDone : {D : Type 0} → (D → DeviceState) → (honest : D → Type 0) → Operation → Outcome → Table D → Table D → Type 0
 HasDone state honest (Start name credits) outcome old new =
     IsSameButJournal old.client new.client × HasStarted state name credits outcome old new

@@ -1,4 +1,4 @@
--- What the client of a journal records, and the moves of the machine that led there.
+-- What a journal's client records, and the moves of the machine that led there.
 use Rattle.std.specs.Prelude.{◌≡◌, ⊤, ℕ, max, replicate, List, [], ◌∷◌, Option, Some, None}
 use Rattle.journal_model.specs.declared.number.Area.TheVariants.{Home}
 use Rattle.journal_model.specs.Disk.{Disk, IsOneOf, Shape}
@@ -12,29 +12,28 @@ use Rattle.journal_script.specs.declared.script.Operation.{Operation}
 use Rattle.journal_script.specs.Named.{IsDirectOf}
 use Rattle.journal_steps.specs.Values.{JournalValue}
 
--- a client as contracts see it: the journal that it calls, on its device, the operations that it performs, and the greatest
--- transaction that it was shown committed, if there is one
+-- the view of a client: its journal and device, its operations, and the greatest transaction that it was shown committed, if any
 pub record ClientValue (D : Type 0) : Type 0 where
   pub journal : JournalValue D
   pub operations : List Operation
   pub shown : Option ℕ
 
--- the greater of this number and of the one before, if there is one
+-- the greater of both numbers
 abbrev pub with_told : ℕ → Option ℕ → Option ℕ
 with_told tid None = Some tid
 with_told tid (Some other) = Some (max other tid)
 
--- the greatest of these numbers, if there are some
+-- the greatest of these numbers, if any
 abbrev pub greatest_of : List ℕ → Option ℕ
 greatest_of [] = None
 greatest_of (tid ∷ tids) = with_told tid (greatest_of tids)
 
--- each of these direct writes is of a block that one of the operations writes directly
+-- each direct write is of a block that one of the operations writes directly
 abbrev pub AreDirectsOf : List Operation → List (ℕ × List ℕ) → Type 0
 AreDirectsOf operations directs = (b : ℕ) (v : List ℕ) → IsOneOf directs (b, v) → IsDirectOf operations b
 
--- the world in which a journal runs on a device that its log was opened on with this disk; these were its direct writes, and
--- these transactions were answered committed
+-- the world of a running journal on a device whose log was opened with this disk, with these direct writes and these transactions answered
+-- committed
 abbrev pub running_world : (opening : Disk) → Journal → DeviceState → (directs : List (ℕ × List ℕ)) → (answered : List ℕ) → JournalWorld
 running_world opening j state directs answered = record {
   below = record {
@@ -48,9 +47,8 @@ running_world opening j state directs answered = record {
   past = [];
 }
 
--- Moves of the machine led from a journal that was just made, on a device of which this fact was known then, to this one. Its
--- direct writes are those of these operations. The greatest transaction that a wait or a status answered committed is the one that
--- is noted.
+-- Moves of the machine lead from a new journal, on a device whose disk satisfied `Fact`, to this journal. Each direct write is of a block
+-- that an operation writes directly. `shown` is the greatest transaction that a wait or a status answered committed.
 pub record HasLedTo (Fact : Shape → Disk → Type 0) (operations : List Operation) (j : Journal) (state : DeviceState) (shown : Option ℕ) : Type 0 where
   pub measures : j.engine.shape ≡ state.shape
   pub opening : Disk
@@ -64,7 +62,7 @@ pub record HasLedTo (Fact : Shape → Disk → Type 0) (operations : List Operat
   pub leads : Leads start moves (running_world opening j state directs answered)
   pub greatest : shown ≡ greatest_of answered
 
--- so they did to what is left of a journal: its device, the transactions that were sealed, and the one that is noted
+-- the same for what is left of a journal: its device, the sealed transactions, and the noted one
 pub record IsLedTo (Fact : Shape → Disk → Type 0) (operations : List Operation) (state : DeviceState) (sealed : History) (shown : Option ℕ) : Type 0 where
   pub journal : Journal
   pub led : HasLedTo Fact operations journal state shown
@@ -74,6 +72,6 @@ pub record IsLedTo (Fact : Shape → Disk → Type 0) (operations : List Operati
 abbrev pub IsAnyHome : Shape → Disk → Type 0
 IsAnyHome shape disk = ⊤
 
--- every block of home is zeros, durably
+-- every block of home is durable zeros
 abbrev pub IsZeroHome : Shape → Disk → Type 0
 IsZeroHome shape disk = (b : ℕ) → disk Home b ≡ durable_cell (replicate shape.block_size 0)

@@ -1,4 +1,4 @@
-//! The client of a journal: it calls it, and records what it is shown.
+//! The client of a journal: calls it, and records which transactions it was shown committed.
 ghost use Rattle.std.specs.Prelude.{◌≡◌, ◌+◌, ◌≤◌, length, IfErr, IfOk, MatchResult, OnOk};
 ghost use Rattle.journal_model.specs.declared.refusal.JournalError.TheVariants.{Memory};
 ghost use Rattle.journal_model.specs.Disk.{Disk, Shape};
@@ -19,9 +19,9 @@ use recovery::Opened;
 use std::alloc::Global;
 use std::marker::{Brand, Model, PhantomData};
 
-/// What is known of the disk on which a run begins.
+/// A fact about the disk on which a run begins.
 pub trait HomeFact {
-    /// A fact about the measures of a device, and about its disk as the opening of its log left it.
+    /// The fact, of a device's measures and of its disk as the opening of its log left it.
     ghost holds: { Shape → Disk → Type 0 };
 }
 
@@ -34,14 +34,14 @@ impl HomeFact for AnyHome {
     ghost holds = { IsAnyHome };
 }
 
-/// What the call that brings it in picks, in proofs alone.
+/// A fact that the caller picks, in proofs alone.
 impl HomeFact for Brand {
     ghost use Rattle.script_client.specs.Told.{IsAnyHome};
 
     ghost holds = { IsAnyHome };
 }
 
-/// Every block of home is zeros, durably.
+/// Every block of home is durable zeros.
 pub struct ZeroHome;
 
 impl HomeFact for ZeroHome {
@@ -50,7 +50,7 @@ impl HomeFact for ZeroHome {
     ghost holds = { IsZeroHome };
 }
 
-/// A journal on a device, the operations that its client performs, and what it was shown.
+/// A journal on a device, the operations that its client performs, and the transactions that it was shown committed.
 #[derive(Drop)]
 pub struct Client<'a, D: Device, H: HomeFact> {
     journal: Journal<D, Vec<Sealed>>,
@@ -70,24 +70,24 @@ impl<'a, D: Device, H: HomeFact> Model for Client<'a, D, H> {
     ghost invariant = { λ c. D.honest c.journal.device → HasLedTo H.holds c.operations.now c.journal.journal (D.state c.journal.device) c.acknowledged };
 }
 
-/// What is left of a journal that was to be closed.
+/// What is left of a journal after `close`, done or refused.
 #[derive(Drop)]
 pub struct Ended<D> {
-    /// Its device and its record.
+    /// The device, and the record of sealed transactions.
     pub parts: Parts<D, Vec<Sealed>>,
     /// The greatest transaction that was shown committed.
     pub acknowledged: Option<Tid>,
-    /// Whether it was closed, or why not.
+    /// Why it is not closed, if it is not.
     pub closed: Result<(), JournalError>,
 }
 
-/// What a wait came to.
+/// The answer to a wait.
 pub enum Waited {
     /// The transaction is committed.
     Committed(Receipt),
-    /// It is not: the ticket comes back.
+    /// The transaction is open; the ticket comes back.
     Open(Ticket),
-    /// The wait is refused: the ticket comes back.
+    /// The wait is refused; the ticket comes back.
     Refused(Ticket, JournalError),
 }
 
@@ -97,7 +97,7 @@ impl<'a, D: Device + Drop, H: HomeFact> Client<'a, D, H> {
     ghost use Rattle.script_client.specs.Shown.{IsWaited, IsNewClient, IsNextHandle, IsLeftOf, IsRefusedAborted, IsSameButJournal, IsShown, ticket_of};
     ghost use Rattle.script_client.specs.Told.{IsLedTo, with_told};
 
-    /// A client of a new journal on an opened log, who is to perform these operations, and was shown nothing.
+    /// Makes a client that is to perform `operations` on a new journal on an opened log.
     ///
     /// # Errors
     ///
@@ -122,7 +122,7 @@ impl<'a, D: Device + Drop, H: HomeFact> Client<'a, D, H> {
         }
     }
 
-    /// How many bytes a block has.
+    /// The size of a block, in bytes.
     pub fn block_size(&self) -> usize
         ensures { result ≡ (D.state self.now.journal.device).shape.block_size }
     {
@@ -136,7 +136,7 @@ impl<'a, D: Device + Drop, H: HomeFact> Client<'a, D, H> {
         self.journal.is_aborted()
     }
 
-    /// Grants credits, and makes a handle of them.
+    /// Starts a handle with these credits.
     ///
     /// # Errors
     ///
@@ -232,7 +232,7 @@ impl<'a, D: Device + Drop, H: HomeFact> Client<'a, D, H> {
         self.journal.read(handle, block, into)
     }
 
-    /// Gives a handle further credits.
+    /// Adds credits to a handle.
     ///
     /// # Errors
     ///
@@ -246,7 +246,7 @@ impl<'a, D: Device + Drop, H: HomeFact> Client<'a, D, H> {
         self.journal.extend(handle, credits)
     }
 
-    /// Ends a handle, and makes another one in its place.
+    /// Stops a handle, and starts one in its place.
     ///
     /// # Errors
     ///
@@ -263,7 +263,7 @@ impl<'a, D: Device + Drop, H: HomeFact> Client<'a, D, H> {
         self.journal.restart(handle, credits)
     }
 
-    /// Ends a handle.
+    /// Stops a handle.
     pub fn stop(&mut self, handle: Handle) -> Ticket
         ensures ticket { result ≡ ticket_of handle }
         ensures ends { EndsHandle D.state handle self.old.journal self.new.journal }
@@ -272,11 +272,11 @@ impl<'a, D: Device + Drop, H: HomeFact> Client<'a, D, H> {
         self.journal.stop(handle)
     }
 
-    /// Asks for the commit of a ticket's transaction.
+    /// Requests the commit of a ticket's transaction.
     ///
     /// # Errors
     ///
-    /// `Aborted`.
+    /// `Aborted`: nothing changes.
     pub fn request(&mut self, ticket: &Ticket) -> Result<(), JournalError>
         ensures ok { OnOk result (Requests D.state ticket.now.tid self.old.journal self.new.journal) }
         ensures err { IfErr result (λ e. IsRefusedAborted self.old e × (self.new.journal ≡ self.old.journal)) }
@@ -285,11 +285,11 @@ impl<'a, D: Device + Drop, H: HomeFact> Client<'a, D, H> {
         self.journal.request(ticket)
     }
 
-    /// Locks the running transaction, and tells its number.
+    /// Locks the running transaction, and returns its number.
     ///
     /// # Errors
     ///
-    /// `Aborted`.
+    /// `Aborted`: nothing changes.
     pub fn lock(&mut self) -> Result<Tid, JournalError>
         ensures current { IfOk result (λ tid. tid ≡ self.old.journal.journal.front.running.tid) }
         ensures locks { OnOk result (Requests D.state self.old.journal.journal.front.running.tid self.old.journal self.new.journal) }
@@ -325,14 +325,14 @@ impl<'a, D: Device + Drop, H: HomeFact> Client<'a, D, H> {
         self.journal.checkpoint_turn()
     }
 
-    /// The last transaction that is told to be committed.
+    /// The last transaction that the journal reports committed.
     pub fn mark(&self) -> Tid
         ensures { result ≡ self.now.journal.journal.front.mark }
     {
         self.journal.mark()
     }
 
-    /// Whether a ticket's transaction is committed. Where it is, that is noted.
+    /// Whether a ticket's transaction is committed. If it is, that is noted.
     pub fn status(&mut self, ticket: &Ticket) -> Status
         ensures status { StatusIs result ticket.now.tid self.old.journal.journal.front }
         ensures shown { IsShown result ticket.now.tid self.old self.new }
@@ -344,7 +344,7 @@ impl<'a, D: Device + Drop, H: HomeFact> Client<'a, D, H> {
         status
     }
 
-    /// Whether a receipt's transaction is committed, as it is where this journal gave it. Where it is, that is noted again.
+    /// Whether a receipt's transaction is committed: always, if this journal gave the receipt. If it is, that is noted again.
     pub fn confirm(&mut self, receipt: &Receipt) -> Status
         ensures status { StatusIs result receipt.now.tid self.old.journal.journal.front }
         ensures shown { IsShown result receipt.now.tid self.old self.new }
@@ -356,7 +356,7 @@ impl<'a, D: Device + Drop, H: HomeFact> Client<'a, D, H> {
         Status::Committed
     }
 
-    /// Takes the receipt of a committed transaction, which is noted. Of any other nothing is awaited.
+    /// Takes the receipt of a committed transaction, and notes it. Does not wait for an open one.
     pub fn wait(&mut self, ticket: Ticket) -> Waited
         ensures { IsWaited result ticket self.old self.new }
     {
@@ -366,7 +366,6 @@ impl<'a, D: Device + Drop, H: HomeFact> Client<'a, D, H> {
         }
     }
 
-    /// Takes the receipt for the ticket of a committed transaction.
     fn wait_for(&mut self, ticket: Ticket) -> Waited
         requires { ticket.tid ≤ self.old.journal.journal.front.mark }
         ensures { IsWaited result ticket self.old self.new }
@@ -380,7 +379,6 @@ impl<'a, D: Device + Drop, H: HomeFact> Client<'a, D, H> {
         }
     }
 
-    /// Notes that a transaction was shown committed.
     fn acknowledge(&mut self, tid: Tid)
         requires { tid ≤ self.old.journal.journal.front.mark }
         ensures { self.new ≡ record self.old { shown = with_told tid self.old.shown } }
@@ -391,7 +389,7 @@ impl<'a, D: Device + Drop, H: HomeFact> Client<'a, D, H> {
         };
     }
 
-    /// Ends the journal: its device with what was sealed, and the greatest transaction that was shown committed.
+    /// Ends the journal. Returns its device, the sealed transactions, and the greatest transaction that was shown committed.
     pub fn finish(self) -> (Parts<D, Vec<Sealed>>, Option<Tid>)
         ensures led { D.honest result.0.device → IsLedTo H.holds self.entry.operations (D.state result.0.device) result.0.sealed.items result.1 }
         ensures left { IsLeftOf self.entry result.0.device result.0.sealed.items result.1 }
@@ -405,8 +403,8 @@ impl<'a, D: Device + Drop, H: HomeFact> Client<'a, D, H> {
         (journal.into_parts(), acknowledged)
     }
 
-    /// Ends the journal by its close. Where that is refused, what was sealed and committed by then stays so: `NotRunning` where a
-    /// handle is open, and nothing was done; else as a close of the journal says.
+    /// Closes the journal. With an open handle the answer is `NotRunning`, and nothing was done; other refusals are those of a journal's
+    /// close. After a refusal, what was sealed and committed stays so.
     pub fn close(self) -> Ended<D>
         ensures ended { D.honest result.parts.device → IsEnded H.holds self.entry.operations (D.state result.parts.device) result.parts.sealed.items result.acknowledged }
         ensures closed { OnOk result.closed (D.honest result.parts.device → IsLeftClosed (D.state result.parts.device) result.parts.sealed.items) }

@@ -1,8 +1,8 @@
-//! Why the operations of a script can't go on.
+//! Why a script's operations can't go on.
 use journal_model::JournalError;
 use std::io;
 
-/// Why the operations of a script, or a run of them, can't go on.
+/// Why a script's operations, or a run of them, can't go on.
 #[derive(Debug, Drop, thiserror::Error)]
 pub enum Fault {
     /// The journal, a log or the device refused, or memory ran out.

@@ -1,4 +1,4 @@
-//! Runs the operations of a script on a journal.
+//! Performs a script's operations on a journal, with handles, tickets and receipts by name.
 ghost use Rattle.std.specs.Prelude.{◌≡◌, ◌↔◌, ◌++◌, Contains, IfErr, IfOk, IsTrue, MatchResult, drop, length, min, replicate, take};
 ghost use Rattle.journal_model.specs.declared.refusal.JournalError.TheVariants.{Memory};
 ghost use Rattle.script_client.specs.declared.outcome.Outcome.TheVariants.{Done, Refused};
@@ -14,18 +14,18 @@ use journal_script::{HANDLE_NAMES, HandleName, Operation};
 use recovery::Opened;
 use std::alloc::{AllocError, Global};
 
-/// More turns than a commit can take: each is the seal or one device call, and there are few more of these than ring blocks,
-/// of which a log has fewer than 1,048,576.
+/// More turns than a commit can take. Each turn is a seal or one device call, and there are few more device calls than ring blocks. A log
+/// has fewer than 1,048,576 of these.
 const MOST_TURNS: u32 = 2_000_000;
 
-/// The client of a journal, and what the names of a script stand for.
+/// A client, and what the names of its script stand for.
 pub struct Interpreter<'a, D: Device, H: HomeFact> {
     alloc: Global,
     client: Client<'a, D, H>,
     slots: Slots,
 }
 
-/// Copies bytes to the front of others, as many as both have.
+/// Copies as many bytes as both have to the front of `to`.
 fn copy_front(to: &mut [u8], from: &[u8])
     ensures { to.new ≡ take (min (length to.old) (length from.now)) from.now ++ drop (min (length to.old) (length from.now)) to.old }
 {
@@ -33,7 +33,7 @@ fn copy_front(to: &mut [u8], from: &[u8])
     to[..n].copy_from_slice(&from[..n]);
 }
 
-/// How these bytes begin, with zeros behind them where they are fewer.
+/// The first bytes, filled up with zeros.
 fn front_of(bytes: &[u8]) -> [u8; PRINTED_BYTES]
     ensures { result ≡ block_from 8 bytes.now }
 {
@@ -42,7 +42,7 @@ fn front_of(bytes: &[u8]) -> [u8; PRINTED_BYTES]
     begins
 }
 
-/// A block of `size` bytes: these, at most one block of them, and zeros behind them.
+/// A block of `size` bytes: the given ones, cut at `size`, then zeros.
 fn block_of(alloc: Global, size: usize, bytes: &[u8]) -> Result<Vec<u8>, AllocError>
     ensures { IfOk result (λ block. block.items ≡ block_from size bytes.now) }
 {
@@ -51,7 +51,6 @@ fn block_of(alloc: Global, size: usize, bytes: &[u8]) -> Result<Vec<u8>, AllocEr
     Ok(block)
 }
 
-/// What a call came to that answers nothing more.
 fn done_or_refused(answer: Result<(), JournalError>) -> Outcome
     ensures { MatchResult answer (λ _. result ≡ Done) (λ e. result ≡ Refused e) }
 {
@@ -61,21 +60,18 @@ fn done_or_refused(answer: Result<(), JournalError>) -> Outcome
     }
 }
 
-/// Whether a commit turn had nothing to do, or waits for a handle to stop.
 fn is_idle(turn: Turn) -> bool
     ensures { IsTrue result ↔ IsIdle turn }
 {
     matches!(turn, Turn::Idle | Turn::Waiting)
 }
 
-/// Whether a checkpoint turn had nothing to do.
 fn is_idle_check(turn: CheckTurn) -> bool
     ensures { IsTrue result ↔ (turn ≡ CheckTurn.Idle) }
 {
     matches!(turn, CheckTurn::Idle)
 }
 
-/// What a status of this transaction is, as an operation tells it.
 fn told(tid: Tid, status: Status) -> Outcome
     ensures { result ≡ told_of tid status }
 {
@@ -95,7 +91,7 @@ impl<'a, D: Device + Drop, H: HomeFact> Interpreter<'a, D, H> {
     ghost use Rattle.script_client.specs.Shown.{IsLeftOf, IsSameButJournal};
     ghost use Rattle.script_client.specs.Told.{IsLedTo};
 
-    /// An interpreter on an opened log, which is to run these operations.
+    /// Makes an interpreter that is to run `operations` on an opened log.
     ///
     /// # Errors
     ///
@@ -126,7 +122,7 @@ impl<'a, D: Device + Drop, H: HomeFact> Interpreter<'a, D, H> {
         }
     }
 
-    /// Runs one of its operations, and tells what it came to.
+    /// Runs one operation.
     pub fn perform(&mut self, operation: &Operation) -> Outcome
         requires { Contains self.old.client.operations operation.now }
         ensures done { HasDone D.state D.honest operation.now result (record { client = self.old.client; names = self.old.slots }) (record { client = self.new.client; names = self.new.slots }) }
@@ -158,8 +154,8 @@ impl<'a, D: Device + Drop, H: HomeFact> Interpreter<'a, D, H> {
         self.client.is_aborted()
     }
 
-    /// Stops the open handles that names stand for and ends the journal: its device with its record, and the greatest transaction
-    /// that was shown committed.
+    /// Stops the open handles and ends the journal. Returns its device, the sealed transactions, and the greatest transaction that was
+    /// shown committed.
     pub fn finish(self) -> (Parts<D, Vec<Sealed>>, Option<Tid>)
         ensures led { D.honest result.0.device → IsLedTo H.holds self.entry.client.operations (D.state result.0.device) result.0.sealed.items result.1 }
         ensures left { IsLeftOf self.entry.client result.0.device result.0.sealed.items result.1 }
@@ -167,7 +163,7 @@ impl<'a, D: Device + Drop, H: HomeFact> Interpreter<'a, D, H> {
         self.into_stopped().finish()
     }
 
-    /// Stops the open handles that names stand for and ends the journal by its close.
+    /// Stops the open handles and closes the journal.
     pub fn close(self) -> Ended<D>
         ensures ended { D.honest result.parts.device → IsEnded H.holds self.entry.client.operations (D.state result.parts.device) result.parts.sealed.items result.acknowledged }
         ensures closed { OnOk result.closed (D.honest result.parts.device → IsLeftClosed (D.state result.parts.device) result.parts.sealed.items) }
@@ -180,7 +176,7 @@ impl<'a, D: Device + Drop, H: HomeFact> Interpreter<'a, D, H> {
         self.into_stopped().close()
     }
 
-    /// The client, who has stopped the open handles that names stand for.
+    /// The client, after the open handles are stopped.
     fn into_stopped(self) -> Client<'a, D, H>
         ensures operations { result.operations ≡ self.entry.client.operations }
         ensures left { IsLeftOf self.entry.client result.journal.device result.journal.journal.front.sealed result.shown }
@@ -205,7 +201,7 @@ impl<'a, D: Device + Drop, H: HomeFact> Interpreter<'a, D, H> {
         client
     }
 
-    /// Starts a handle, where its name stands for no open one. Where the start is refused the name stands for nothing.
+    /// Starts a handle, if its name stands for no open one. After a refused start the name stands for nothing.
     fn start(&mut self, name: HandleName, credits: u64) -> Outcome
         ensures rest { IsSameButJournal self.old.client self.new.client }
         ensures done { HasStarted D.state name credits result (record { client = self.old.client; names = self.old.slots }) (record { client = self.new.client; names = self.new.slots }) }
@@ -226,7 +222,6 @@ impl<'a, D: Device + Drop, H: HomeFact> Interpreter<'a, D, H> {
         }
     }
 
-    /// Writes, revokes or reads a block through the open handle that a name stands for, or gives that handle further credits.
     fn touch(&mut self, name: HandleName, operation: &Operation) -> Outcome
         requires { IsTouch operation.now }
         ensures rest { IsSameButJournal self.old.client self.new.client }
@@ -245,7 +240,6 @@ impl<'a, D: Device + Drop, H: HomeFact> Interpreter<'a, D, H> {
         }
     }
 
-    /// Writes, revokes or reads a block through a handle, or gives it further credits.
     fn touch_by(&mut self, handle: &mut Handle, operation: &Operation) -> Outcome
         requires { IsTouch operation.now }
         ensures rest { IsSameButJournal self.old.client self.new.client }
@@ -261,7 +255,7 @@ impl<'a, D: Device + Drop, H: HomeFact> Interpreter<'a, D, H> {
         }
     }
 
-    /// Writes a block through a handle: these bytes, and zeros behind them.
+    /// Writes a block through a handle: these bytes, then zeros.
     fn write(&mut self, handle: &mut Handle, block: BlockNo, bytes: &[u8]) -> Outcome
         ensures rest { IsSameButJournal self.old.client self.new.client }
         ensures done { WritesBlock D.state block bytes.now result handle.old handle.new self.old.client.journal self.new.client.journal }
@@ -273,7 +267,6 @@ impl<'a, D: Device + Drop, H: HomeFact> Interpreter<'a, D, H> {
         }
     }
 
-    /// Reads a block through a handle.
     fn read(&mut self, handle: &mut Handle, block: BlockNo) -> Outcome
         ensures rest { IsSameButJournal self.old.client self.new.client }
         ensures done { ReadsBlock D.state D.honest block result handle.old self.old.client.journal self.new.client.journal }
@@ -289,7 +282,7 @@ impl<'a, D: Device + Drop, H: HomeFact> Interpreter<'a, D, H> {
         }
     }
 
-    /// Stops a handle and starts another one in its place. Where that is refused the name stands for the stopped one's ticket.
+    /// Stops a handle and starts one in its place. After a refusal the name stands for the stopped handle's ticket.
     fn restart(&mut self, name: HandleName, credits: u64) -> Outcome
         ensures rest { IsSameButJournal self.old.client self.new.client }
         ensures done { HasRestarted D.state name credits (stands_for self.old.slots name) result (record { client = self.old.client; names = self.old.slots }) (record { client = self.new.client; names = self.new.slots }) }
@@ -313,7 +306,6 @@ impl<'a, D: Device + Drop, H: HomeFact> Interpreter<'a, D, H> {
         }
     }
 
-    /// Stops a handle.
     fn stop(&mut self, name: HandleName) -> Outcome
         ensures rest { IsSameButJournal self.old.client self.new.client }
         ensures done { HasStopped D.state name (stands_for self.old.slots name) result (record { client = self.old.client; names = self.old.slots }) (record { client = self.new.client; names = self.new.slots }) }
@@ -332,7 +324,7 @@ impl<'a, D: Device + Drop, H: HomeFact> Interpreter<'a, D, H> {
         }
     }
 
-    /// Asks for a commit. The transaction of a receipt is committed already, so nothing is left to ask the journal for.
+    /// Requests a commit. A receipt's transaction is already committed, so the journal need not be asked.
     fn request(&mut self, name: HandleName) -> Outcome
         ensures rest { IsSameButJournal self.old.client self.new.client }
         ensures done { HasRequested D.state (stands_for self.old.slots name) result (record { client = self.old.client; names = self.old.slots }) (record { client = self.new.client; names = self.new.slots }) }
@@ -347,7 +339,6 @@ impl<'a, D: Device + Drop, H: HomeFact> Interpreter<'a, D, H> {
         }
     }
 
-    /// Locks the running transaction.
     fn lock(&mut self) -> Outcome
         ensures rest { IsSameButJournal self.old.client self.new.client }
         ensures done { Locks D.state result self.old.client.journal self.new.client.journal }
@@ -359,7 +350,6 @@ impl<'a, D: Device + Drop, H: HomeFact> Interpreter<'a, D, H> {
         }
     }
 
-    /// Takes one commit turn.
     fn turn(&mut self) -> Outcome
         ensures rest { IsSameButJournal self.old.client self.new.client }
         ensures done { TakesOneTurn D.state result self.old.client.journal self.new.client.journal }
@@ -371,7 +361,6 @@ impl<'a, D: Device + Drop, H: HomeFact> Interpreter<'a, D, H> {
         }
     }
 
-    /// Takes one checkpoint turn.
     fn checkpoint_turn(&mut self) -> Outcome
         ensures rest { IsSameButJournal self.old.client self.new.client }
         ensures done { TakesOneCheckTurn D.state result self.old.client.journal self.new.client.journal }
@@ -421,7 +410,7 @@ impl<'a, D: Device + Drop, H: HomeFact> Interpreter<'a, D, H> {
         Outcome::Transaction(self.client.mark())
     }
 
-    /// Says whether a transaction is committed. Where it is, that is noted.
+    /// The status of a name's transaction. If it is committed, that is noted.
     fn status(&mut self, name: HandleName) -> Outcome
         ensures done { HasStatus (stands_for self.old.slots name) result (record { client = self.old.client; names = self.old.slots }) (record { client = self.new.client; names = self.new.slots }) }
         ensures operations { self.new.client.operations ≡ self.old.client.operations }
@@ -433,7 +422,7 @@ impl<'a, D: Device + Drop, H: HomeFact> Interpreter<'a, D, H> {
         }
     }
 
-    /// Takes the receipt of a committed transaction, which is noted. Of any other nothing is awaited.
+    /// Takes the receipt of a committed transaction, and notes it. Does not wait for an open one.
     fn wait(&mut self, name: HandleName) -> Outcome
         ensures done { HasWaited name (stands_for self.old.slots name) result (record { client = self.old.client; names = self.old.slots }) (record { client = self.new.client; names = self.new.slots }) }
         ensures operations { self.new.client.operations ≡ self.old.client.operations }
@@ -456,8 +445,7 @@ impl<'a, D: Device + Drop, H: HomeFact> Interpreter<'a, D, H> {
         }
     }
 
-    /// What is told of a receipt that was taken before: its transaction, which is noted again, or what the journal answers of
-    /// every ticket once it is aborted.
+    /// Answers a wait by a receipt: its transaction, noted again, or `Aborted` as for every ticket of an aborted journal.
     fn wait_again(&mut self, receipt: &Receipt) -> Outcome
         ensures done { TellsAgain receipt.now.tid result self.old.client self.new.client }
         ensures slots { self.new.slots ≡ self.old.slots }
@@ -471,7 +459,7 @@ impl<'a, D: Device + Drop, H: HomeFact> Interpreter<'a, D, H> {
         }
     }
 
-    /// Takes the receipt for a ticket, where its transaction is committed. What its name stands for then comes back too.
+    /// Takes the receipt for a ticket, if its transaction is committed. Also returns what the name stands for now.
     fn wait_for(&mut self, ticket: Ticket) -> (Outcome, Slot)
         ensures done { WaitsFor ticket result.0 result.1 self.old.client self.new.client }
         ensures slots { self.new.slots ≡ self.old.slots }
@@ -485,7 +473,6 @@ impl<'a, D: Device + Drop, H: HomeFact> Interpreter<'a, D, H> {
         }
     }
 
-    /// Writes these bytes directly, with zeros behind them.
     fn write_direct(&mut self, block: BlockNo, bytes: &[u8]) -> Outcome
         requires { IsDirectOf self.old.client.operations block }
         ensures rest { IsSameButJournal self.old.client self.new.client }
@@ -498,7 +485,6 @@ impl<'a, D: Device + Drop, H: HomeFact> Interpreter<'a, D, H> {
         }
     }
 
-    /// Makes direct writes durable.
     fn sync_direct(&mut self) -> Outcome
         ensures rest { IsSameButJournal self.old.client self.new.client }
         ensures done { SyncsDirectly D.state result self.old.client.journal self.new.client.journal }

@@ -1,8 +1,4 @@
-//! The client of a journal: performs the operations of a script on a journal over any device, and records what the journal told.
-//!
-//! `client` calls the journal and notes what it is shown. `interpreter` runs operations by it, with `slots` for what the names of
-//! a script stand for and `outcome` for what an operation came to. `performing` runs a list of them, prints a line for each, and
-//! ends the journal; `fault` is why it can't go on.
+//! Performs a script's operations on a journal over any device, and records what the journal answered.
 #![tactic(auto)]
 
 mod client;

@@ -1,4 +1,4 @@
-//! What an operation came to, as the right side of its line says it.
+//! The outcome of an operation, as the right side of its line.
 ghost use Rattle.std.specs.Fmt.{WritesOnOk};
 ghost use Rattle.script_client.specs.Lines.{check_turn_text, done_text, hex_digits, refused_text, turn_text};
 
@@ -6,29 +6,29 @@ use group_commit::{CheckTurn, Turn};
 use journal_model::{JournalError, Tid};
 use std::fmt;
 
-/// How many bytes of a home block are printed.
+/// How many bytes of a read block are printed.
 pub const PRINTED_BYTES: usize = 8;
 
-/// What an operation came to.
+/// The outcome of an operation.
 #[derive(Clone, Copy)]
 pub enum Outcome {
-    /// It is accepted, and this is the number of the transaction that it is about.
+    /// Accepted; the number of the transaction that it is about.
     Transaction(Tid),
-    /// It is accepted.
+    /// Accepted.
     Done,
-    /// It is accepted, and the block begins so.
+    /// Accepted; the first bytes of the block.
     Begins([u8; PRINTED_BYTES]),
     /// What a commit turn did.
     Turn(Turn),
     /// What a checkpoint turn did.
     CheckTurn(CheckTurn),
-    /// The transaction is committed; this is its number, which is not printed.
+    /// The transaction is committed. Its number is not printed.
     Committed(Tid),
     /// The transaction is not committed.
     Open,
-    /// It did not run: its handle's start was refused, or, of a start, its name stands for an open handle.
+    /// It did not run: its name stands for nothing that it needs or, for a start, for an open handle.
     Skipped,
-    /// It is refused.
+    /// Refused.
     Refused(JournalError),
 }
 
@@ -53,7 +53,7 @@ impl fmt::Display for Outcome {
     }
 }
 
-/// Bytes, which are written in hex digits.
+/// Bytes, displayed as hex digits.
 #[derive(Clone, Copy)]
 pub struct Hex<'a>(pub &'a [u8]);
 
@@ -71,21 +71,18 @@ impl fmt::Display for Hex<'_> {
     }
 }
 
-/// Writes a byte in two hex digits.
 fn write_byte<W: fmt::Write>(f: &mut fmt::Formatter<W>, byte: u8) -> fmt::Result
     ensures { WritesOnOk W.write_str_gives f.old result (hex_digits byte) f.new }
 {
     write!(f, "{byte:02x}")
 }
 
-/// Writes why an operation is refused.
 fn write_refusal<W: fmt::Write>(f: &mut fmt::Formatter<W>, e: JournalError) -> fmt::Result
     ensures { WritesOnOk W.write_str_gives f.old result (refused_text e) f.new }
 {
     write!(f, "refused {} {e}", e.number())
 }
 
-/// Writes what a commit turn did.
 fn write_turn<W: fmt::Write>(f: &mut fmt::Formatter<W>, turn: Turn) -> fmt::Result
     ensures { WritesOnOk W.write_str_gives f.old result (turn_text turn) f.new }
 {
@@ -98,7 +95,6 @@ fn write_turn<W: fmt::Write>(f: &mut fmt::Formatter<W>, turn: Turn) -> fmt::Resu
     }
 }
 
-/// Writes what a checkpoint turn did.
 fn write_check_turn<W: fmt::Write>(f: &mut fmt::Formatter<W>, turn: CheckTurn) -> fmt::Result
     ensures { WritesOnOk W.write_str_gives f.old result (check_turn_text turn) f.new }
 {
@@ -109,7 +105,6 @@ fn write_check_turn<W: fmt::Write>(f: &mut fmt::Formatter<W>, turn: CheckTurn) -
     }
 }
 
-/// Writes what was done to a transaction.
 fn write_done<W: fmt::Write>(f: &mut fmt::Formatter<W>, done: &str, tid: Tid) -> fmt::Result
     ensures { WritesOnOk W.write_str_gives f.old result (done_text done.now tid) f.new }
 {

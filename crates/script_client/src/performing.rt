@@ -1,4 +1,4 @@
-//! The operations of a script, one after the other.
+//! Runs a list of operations, prints a line for each, and ends the journal.
 ghost use Rattle.std.specs.Prelude.{◌≡◌, ◌↔◌, IfErr, IfNone, IfOk, IfSome, IsTrue, OnErr, OnOk};
 ghost use Rattle.std.specs.Io.KnownBytes.{Appends};
 ghost use Rattle.journal_model.specs.declared.refusal.JournalError.TheVariants.{Memory};
@@ -23,60 +23,59 @@ use std::io;
 use std::io::Write;
 use std::marker::Brand;
 
-/// What the operations behind a device failure come to.
+/// Whether operations go on after one that a device failure refused.
 #[derive(Clone, Copy, Debug, PartialEq, Eq)]
 pub enum AfterFailure {
-    /// Nothing: the first operation that is refused for such a failure is the last one.
+    /// They end there.
     End,
-    /// They are performed, and come to what the aborted journal answers.
+    /// They go on; the aborted journal refuses them or answers as it does then.
     GoOn,
 }
 
-/// What comes behind an operation that is refused.
+/// Whether operations go on after a refusal.
 #[derive(Clone, Copy, Debug, PartialEq, Eq)]
 pub enum AfterRefusal {
-    /// Nothing: the first operation that is refused is the last one, so that no half of a change is committed.
+    /// They end at the first refusal, so that no half of a change is committed.
     End,
-    /// Those behind it are performed, but for one that was refused because the device failed: that is the last one.
+    /// They go on, unless the device failed: that refusal is the last outcome.
     GoOn,
 }
 
-/// What is left of a journal when operations were performed on it.
+/// What is left of a journal after `perform` or `apply`.
 #[derive(Drop)]
 pub struct Performed<D> {
     /// The device.
     pub device: D,
-    /// The transactions that were sealed, in order.
+    /// The sealed transactions, in order.
     pub sealed: Vec<Sealed>,
     /// The greatest transaction that was shown committed.
     pub acknowledged: Option<Tid>,
 }
 
-/// How a journal is left behind its last operation.
+/// How `apply` leaves the journal after its last operation.
 #[derive(Clone, Copy, Debug, PartialEq, Eq)]
 pub enum Ending {
-    /// It is closed: the log is clean, and home has all that was committed.
+    /// Closed: the log is clean, and home has all that was committed.
     Close,
-    /// It is not: what was committed stays in the log, for the next opening.
+    /// Not closed: what was committed stays in the log, for the next opening.
     Stay,
 }
 
-/// What is left of a journal when operations were applied to it, and how that ended.
+/// What is left after `apply`, and how it ended.
 #[derive(Drop)]
 pub struct Applied<D> {
-    /// What is left.
+    /// What is left of the journal.
     pub left: Performed<D>,
-    /// Whether all was done, or why not.
+    /// Why not all was done, if not.
     pub end: Result<(), Fault>,
 }
 
-/// Performs operations on a new journal on an opened log, of whose disk `H` is known, and prints a line for each. The open handles
-/// that names stand for are stopped at the end.
+/// Performs operations on a new journal on an opened log, whose disk satisfies `H`, and prints a line for each. Stops the open handles at
+/// the end; the journal is not closed.
 ///
 /// # Errors
 ///
-/// `Fault::Refused` with `Memory` where there is none for the journal; `Fault::Output` where a line can't be written. Some of the
-/// lines may have been.
+/// `Fault::Refused` with `Memory`: none for the journal. `Fault::Output`: a line can't be written; earlier lines may have been.
 pub fn perform<D: Device + Drop, H: HomeFact, W: Write>(
     alloc: Global,
     opened: Opened<D>,
@@ -97,7 +96,6 @@ pub fn perform<D: Device + Drop, H: HomeFact, W: Write>(
     }
 }
 
-/// Performs the operations of an interpreter, and ends the journal.
 fn perform_by<D: Device + Drop, H: HomeFact, W: Write>(
     interpreter: Interpreter<'_, D, H>,
     operations: &[Operation],
@@ -121,16 +119,17 @@ fn perform_by<D: Device + Drop, H: HomeFact, W: Write>(
     }
 }
 
-/// Performs operations on a new journal on an opened log, of whose disk `H` is known, and prints a line for each. `after` tells
-/// which refused one is the last; one that is refused because the device failed always is. The open handles that names stand for
-/// are stopped behind the last, and then the journal is closed, where `ending` tells so. What is left comes back however the work
-/// ended: `Fault::Output` where a line could not be written, the refusal of the operation that was the last one, and the refusal of
-/// the close. The journal is closed in none of these cases, nor where `ending` tells that it stays; what was committed by then is
-/// in the log or at home, and of a transaction that was not, nothing is.
+/// Performs operations on a new journal on an opened log, whose disk satisfies `H`, and prints a line for each. `after` says at which
+/// refusal it ends; it always ends if the device failed. Then it stops the open handles and, if all was performed and `ending` is `Close`,
+/// closes the journal.
+///
+/// `Applied` has what is left, and how it ended: `Fault::Output` if a line could not be written, else the refusal of the last operation or
+/// of the close. After such an end, or with `Stay`, the journal is not closed: what was committed is in the log or at home, and nothing is
+/// of a transaction that was not.
 ///
 /// # Errors
 ///
-/// `Memory` where there is none for the journal: nothing was done, and the opened log comes back.
+/// `Memory`: none for the journal. Nothing was done, and the opened log comes back.
 pub fn apply<D: Device + Drop, H: HomeFact, W: Write>(
     alloc: Global,
     opened: Opened<D>,
@@ -155,7 +154,7 @@ pub fn apply<D: Device + Drop, H: HomeFact, W: Write>(
     apply_known::<D, Brand, W>(alloc, opened, operations, after, ending, out)
 }
 
-/// The same, where the caller picks what is known of the disk.
+/// `apply`, for any choice of what is known of the disk.
 fn apply_known<D: Device + Drop, H: HomeFact, W: Write>(
     alloc: Global,
     opened: Opened<D>,
@@ -186,11 +185,11 @@ fn apply_known<D: Device + Drop, H: HomeFact, W: Write>(
     }
 }
 
-/// Performs operations up to the one that is the last, and prints a line for each.
+/// Performs operations up to the one that ends the list, and prints a line for each.
 ///
 /// # Errors
 ///
-/// `Fault::Refused`: the last one was refused, and was to be the last for that. `Fault::Output`: its line can't be written.
+/// `Fault::Refused`: the refusal that ended the list. `Fault::Output`: a line can't be written.
 fn apply_all<D: Device + Drop, H: HomeFact, W: Write>(
     interpreter: &mut Interpreter<'_, D, H>,
     operations: &[Operation],
@@ -216,14 +215,13 @@ fn apply_all<D: Device + Drop, H: HomeFact, W: Write>(
     Ok(())
 }
 
-/// Prints the line of an operation.
 fn write_line<W: Write>(operation: &Operation, outcome: &Outcome, out: &mut W) -> io::Result<()>
     ensures { OnOk result (Appends (W.contents out.old) (W.contents out.new) (line_of operation.now outcome.now)) }
 {
     writeln!(out, "{operation} = {outcome}")
 }
 
-/// Why an operation that came to this is the last one that is applied, if it is.
+/// The refusal that ends the list at this outcome, if any.
 fn last_refusal(outcome: Outcome, after: AfterRefusal) -> Option<JournalError>
     ensures some { IfSome result (λ e. (outcome ≡ Refused e) × EndsApply after e) }
     ensures none { IfNone result (IsLastApplied after outcome → ⊥) }
@@ -234,7 +232,7 @@ fn last_refusal(outcome: Outcome, after: AfterRefusal) -> Option<JournalError>
     }
 }
 
-/// Ends the journal, as `ending` tells where all operations were performed.
+/// Ends the journal without a close if operations failed, else as `ending` says.
 fn end_of<D: Device + Drop, H: HomeFact>(
     interpreter: Interpreter<'_, D, H>,
     applied: Result<(), Fault>,
@@ -251,7 +249,6 @@ fn end_of<D: Device + Drop, H: HomeFact>(
     }
 }
 
-/// Ends the journal as this tells.
 fn end_as<D: Device + Drop, H: HomeFact>(
     interpreter: Interpreter<'_, D, H>,
     ending: Ending,
@@ -267,7 +264,6 @@ fn end_as<D: Device + Drop, H: HomeFact>(
     }
 }
 
-/// Ends the journal without a close.
 fn stay<D: Device + Drop, H: HomeFact>(
     interpreter: Interpreter<'_, D, H>,
     end: Result<(), Fault>,
@@ -283,7 +279,6 @@ fn stay<D: Device + Drop, H: HomeFact>(
     }
 }
 
-/// Ends the journal by its close.
 fn close<D: Device + Drop, H: HomeFact>(interpreter: Interpreter<'_, D, H>) -> Applied<D>
     ensures ended { D.honest result.left.device → IsEnded H.holds interpreter.entry.client.operations (D.state result.left.device) result.left.sealed.items result.left.acknowledged }
     ensures closed { OnOk result.end (D.honest result.left.device → IsLeftClosed (D.state result.left.device) result.left.sealed.items) }
@@ -308,7 +303,6 @@ fn close<D: Device + Drop, H: HomeFact>(interpreter: Interpreter<'_, D, H>) -> A
     }
 }
 
-/// Performs the operations of an interpreter, and prints a line for each.
 fn perform_all<D: Device + Drop, H: HomeFact, W: Write>(
     interpreter: &mut Interpreter<'_, D, H>,
     operations: &[Operation],
@@ -330,14 +324,12 @@ fn perform_all<D: Device + Drop, H: HomeFact, W: Write>(
     Ok(())
 }
 
-/// Whether no operation is performed behind one that came to this.
 fn is_last(outcome: Outcome, after: AfterFailure) -> bool
     ensures { IsTrue result ↔ IsLast after outcome }
 {
     after == AfterFailure::End && matches!(outcome, Outcome::Refused(JournalError::Device))
 }
 
-/// What the performed operations leave.
 fn left_of<D: Device + Drop, H: HomeFact>(interpreter: Interpreter<'_, D, H>) -> Performed<D>
     ensures led { D.honest result.device → IsLedTo H.holds interpreter.entry.client.operations (D.state result.device) result.sealed.items result.acknowledged }
     ensures left { IsLeftOf interpreter.entry.client result.device result.sealed.items result.acknowledged }

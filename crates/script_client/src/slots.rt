@@ -9,17 +9,17 @@ use std::mem;
 
 /// What a name stands for.
 pub enum Slot {
-    /// Nothing: its handle's start was refused, or none was tried.
+    /// Nothing: no start was tried, or it was refused.
     Empty,
     /// An open handle.
     Open(Handle),
     /// The ticket of a stopped handle.
     Stopped(Ticket),
-    /// The receipt that a stopped handle's ticket was given for.
+    /// The receipt of a stopped handle's ticket.
     Waited(Receipt),
 }
 
-/// What each name stands for.
+/// One slot for each name.
 pub struct Slots {
     slots: Vec<Slot>,
 }
@@ -36,7 +36,7 @@ impl Model for Slots {
 impl Slots {
     ghost use Rattle.script_client.specs.Names.{IsFree, MayStand, stands_for};
 
-    /// No name stands for anything. The room is for a slot of each name.
+    /// Slots of names that stand for nothing. `room` must be empty, with room for every name.
     pub fn of(room: Vec<Slot>) -> Self
         requires empty { room.items ≡ [] }
         requires capacity { vec_capacity room ≡ 10_000 }
@@ -49,7 +49,7 @@ impl Slots {
         Slots { slots }
     }
 
-    /// Whether a name may come to stand for an open handle: there is such a name, and it stands for none.
+    /// Whether a name may get an open handle: the name exists, and stands for no open handle.
     pub fn is_free(&self, name: HandleName) -> bool
         ensures { IsTrue result ↔ IsFree self.now name }
     {
@@ -59,14 +59,14 @@ impl Slots {
         }
     }
 
-    /// What a name stands for.
+    /// The slot of a name, if the name exists.
     pub fn get(&self, name: HandleName) -> Option<&Slot>
         ensures { MatchOption result (stands_for self.now name ≡ Empty) (λ slot. stands_for self.now name ≡ slot.now) }
     {
         self.slots.get(name.index())
     }
 
-    /// Takes what a name stands for. It then stands for nothing.
+    /// Takes what a name stands for; the name then stands for nothing.
     pub fn take(&mut self, name: HandleName) -> Slot
         ensures slot { result ≡ stands_for self.old name }
         ensures others { self.new ≡ set self.old name Empty }
@@ -78,7 +78,7 @@ impl Slots {
         }
     }
 
-    /// Lets a name, which stands for no open handle, stand for something else.
+    /// Puts something at a name that stands for no open handle.
     pub fn put(&mut self, name: HandleName, slot: Slot)
         requires { MayStand self.old name slot }
         ensures { self.new ≡ set self.old name slot }
@@ -94,7 +94,7 @@ impl Slots {
         }
     }
 
-    /// What the names stand for, in their order.
+    /// The slots, in the order of their names.
     pub fn into_slots(self) -> Vec<Slot>
         ensures { result.items ≡ self }
     {

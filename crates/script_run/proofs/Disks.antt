@@ -1,4 +1,4 @@
--- The disk on which a run begins.
+-- Lemmas: the disk on which a run begins.
 use Rattle.std.proofs.Common.{◌∙◌, refl, sym, ap, subst, arith}
 use Rattle.std.specs.Prelude.{◌≡◌, ℕ, ◌^◌, ◌<◌, ◌≤◌, Bool, List, [], ◌∷◌, Option, length, replicate}
 use Rattle.journal_model.specs.declared.number.Area.{Area}
@@ -24,14 +24,14 @@ kept-none : (v : List ℕ) (ws : List (ℕ × List ℕ)) → kept_value [] v ws 
 kept-none v [] = refl
 kept-none v (w ∷ ws) = kept-none v ws
 
--- where a block is durable, that is what it reads
+-- a durable block reads the same after a crash
 crashed-durable : (s : MemState) (a : Area) (n : ℕ) (v : List ℕ) → (state_of s).disk a n ≡ durable_cell v → crashed [] s a n ≡ v
 crashed-durable s a n v is = kept-none (durable ((state_of s).disk a n)) (unflushed a n s.calls) ∙ ap durable is
 
 small : (n : ℕ) → n ≤ greatest_length → n < 2 ^ 32
 small n most = omega (arith, most)
 
--- what a crash leaves of a device that was blank, and then formatted
+-- a blank device that was formatted is, after a crash, a disk with an empty log
 pub empty-log : (m : Measures) (blank formatted left : MemState)
     → blank ≡ record { shape = shape_of m; calls = []; faults = 0; calls_made = 0 } → formatted.shape ≡ blank.shape
     → IsFormatted blank.shape m.log_blocks m.uuid m.wide (state_of blank).disk (state_of formatted).disk → length m.uuid ≡ 16
@@ -65,12 +65,12 @@ opened-zero m old new superblock next empty is shape =
     let still : new.disk ≡ flushed old.disk Log = is.untouched empty.clean in
     λ b. ap (λ (d : Disk). d Home b) still ∙ empty.home b ∙ ap (λ (s : Shape). durable_cell (replicate s.block_size 0)) (sym shape)
 
--- the device of a run has the disk that it was made over
+-- the device of a run keeps the home of zeros of its disk
 pub run-zero : (disk : MemState) (stop fail : Option ℕ) (device : FailOnce (StopAt MemState)) → device ≡ run_device_over disk stop fail → IsZeroHome (state_of disk).shape (state_of disk).disk
     → IsZeroHome (run_state device).shape (run_state device).disk
 run-zero disk stop fail device is zero = subst (λ (d : FailOnce (StopAt MemState)). IsZeroHome (run_state d).shape (run_state d).disk) (sym is) zero
 
--- what was opened over that disk is opened over the device
+-- a log opened on that disk is opened on the device over it
 pub run-anew : (m : Measures) (stop fail : Option ℕ) (formatted disk : MemState) (superblock : List ℕ) (next : ℕ) (opened : OpenedValue (FailOnce (StopAt MemState)))
     → IsEmptyLog m (state_of formatted) → (state_of disk).shape ≡ (state_of formatted).shape
     → IsOpening (state_of formatted).shape (state_of formatted).disk (state_of disk).disk superblock next

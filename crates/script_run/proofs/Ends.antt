@@ -1,4 +1,4 @@
--- What the device of a run leaves.
+-- Lemma: the disk of a run's device.
 use Rattle.std.proofs.Common.{refl, sym, subst}
 use Rattle.std.specs.Prelude.{◌≡◌, ℕ, List, Option}
 use Rattle.journal_model.specs.Disk.{Disk, Shape}
@@ -11,7 +11,7 @@ use Rattle.script_client.specs.Told.{IsLedTo}
 use Rattle.script_client.proofs.Telling.{stays}
 use Rattle.script_run.specs.Disks.{disk_behind, run_state}
 
--- the disk behind it is what was led to
+-- what led to the device led to its disk
 pub led-behind : (Fact : Shape → Disk → Type 0) (operations : List Operation) (sealed : History) (shown : Option ℕ) (device : FailOnce (StopAt MemState)) (left : MemState) → left ≡ disk_behind device
     → IsLedTo Fact operations (run_state device) sealed shown → IsLedTo Fact operations (state_of left) sealed shown
 led-behind Fact operations sealed shown device left is to =

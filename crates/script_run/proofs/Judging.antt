@@ -1,4 +1,4 @@
--- What a verdict counts and compares.
+-- Lemmas: what a verdict counts and compares.
 use Rattle.std.proofs.Common.{◌≡◌, ◌↔◌, ◌∙◌, ℕ, List, [], IsTrue, Option, Some, Bool, true, false, nat_le, ◌<◌, All, ◌||◌, refl, ap, subst}
 use Rattle.std.specs.List.{count_by}
 use Rattle.journal_model.specs.declared.entry.Entry.{Entry}
@@ -20,11 +20,11 @@ or_false : (b : Bool) → b ≡ (b || false)
 or_false true = refl
 or_false false = refl
 
--- what is owed are those up to the one that was shown committed
+-- the transactions up to the one that was shown committed are owed
 pub count_up_to-owed : (n : ℕ) (ts : History) → count_by (λ t. nat_le t.tid n) ts ≡ owed (Some n) ts
 count_up_to-owed n ts = λ i. count_by (λ t. or_false (nat_le t.tid n) i) ts
 
--- on a device that stays, the same blocks are as they were left
+-- on an unchanged device, the same blocks are as they were left
 pub IsLeft-stays : (last : ℕ → Option Entry) (directs : List ℕ) (b : ℕ) (old new : DeviceState) → Stays old new
     → IsLeft last directs new.shape.block_size (reading new.disk Home) b
     → IsLeft last directs old.shape.block_size (reading old.disk Home) b
@@ -33,7 +33,7 @@ IsLeft-stays last directs b old new s h =
     let on_disk : Disk → Type 0 = λ disk. IsLeft last directs old.shape.block_size (reading disk Home) b in
     subst on_disk s.disk (subst on_shape s.shape h)
 
--- and it is as right
+-- and the verdict is the same
 pub IsRight-stays : (sealed : History) (shown : Option ℕ) (named : NamedBlocks) (n : ℕ) (right : Bool) (old new : DeviceState) → Stays old new
     → (IsTrue right ↔ IsRight sealed shown named n new.shape.block_size (reading new.disk Home))
     → (IsTrue right ↔ IsRight sealed shown named n old.shape.block_size (reading old.disk Home))
@@ -42,13 +42,13 @@ IsRight-stays sealed shown named n right old new s h =
     let on_disk : Disk → Type 0 = λ disk. IsTrue right ↔ IsRight sealed shown named n old.shape.block_size (reading disk Home) in
     subst on_disk s.disk (subst on_shape s.shape h)
 
--- an opening tells the limit of what it opened
+-- the report of an opening has the limit
 pub HasLimit-from_tells : (shape : Shape) (image : Image) (clean : Bool) (ends_at transactions : ℕ)
     → Tells shape image clean ends_at transactions → HasLimit shape image ends_at
 HasLimit-from_tells shape image clean ends_at transactions (OfClean h) = CleanLimit h
 HasLimit-from_tells shape image clean ends_at transactions (OfChain texts h) = ChainLimit texts h
 
--- the verdict on an image: what opening it gave, which stays until it is judged
+-- the verdict on an image, from its opening
 pub IsImageVerdict-from : (sealed : History) (shown : Option ℕ) (named : NamedBlocks) (right : Bool) (image opened : MemState) (limit n : ℕ)
     → HasLimit image.shape (reading (state_of image).disk) limit
     → OpensAs image.shape (reading (state_of image).disk) (reading (state_of opened).disk Home)
@@ -69,7 +69,7 @@ IsImageVerdict-from sealed shown named right image opened limit n has_limit open
       right_is = subst on_shape shape (subst on_count count right_is);
     }
 
--- the verdict on a device: that on what a crash left, which stays until it is opened
+-- the verdict on a device, from that on its crash image
 pub IsVerdict-from : (device : MemState) (keep : List ℕ) (sealed : History) (shown : Option ℕ) (named : NamedBlocks) (right : Bool) (left image : MemState)
     → ((a : Area) (n : ℕ) → (state_of left).disk a n ≡ record { reads = crashed keep device a n; others = [] })
     → left.shape ≡ device.shape

@@ -1,4 +1,4 @@
--- The last entries of blocks, with one more step or one more transaction.
+-- Lemmas: last entries with one more step or transaction.
 use Rattle.std.proofs.Common.{◌≡◌, ℕ, ◌+◌, ◌<◌, List, [], ◌∷◌, ◌++◌, length, take, get_or, Option, sym, ◌∙◌, ap}
 use Rattle.journal_model.specs.declared.entry.Entry.{Entry}
 use Rattle.journal_model.specs.declared.transaction.Step.{Step}
@@ -7,7 +7,7 @@ use Rattle.journal_model.specs.Transaction.{later, effect, last_effect}
 use Rattle.journal_model.proofs.Effects.{later-none, later-later, effect-push}
 use Rattle.journal_model.proofs.ListElements.{take-more_read}
 
--- the last entry of the first i + 1 steps behind older ones, by that of the first i
+-- the last entry of the first i + 1 steps after older ones, by that of the first i
 pub effect-more : (b : ℕ) (ss : List Step) (i : ℕ) (s : Step) (old : Option Entry) → i < length ss → s ≡ get_or ss i s →
     later old (effect b (take (i + 1) ss)) ≡ later (later old (effect b (take i ss))) (effect b (s ∷ []))
 effect-more b ss i s old below read =

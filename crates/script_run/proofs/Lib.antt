@@ -1,4 +1,4 @@
--- The lemmas of this crate that crates above it cite.
+-- Lemmas that crates above cite.
 pub mod Openings
 pub mod Refusals
 pub mod Verdicts

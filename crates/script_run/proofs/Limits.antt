@@ -1,4 +1,4 @@
--- What an opening of a log finds.
+-- Lemmas: what an opening of a log finds.
 use Rattle.std.proofs.Common.{◌∙◌, ap, ap₂, subst, sym, arith}
 use Rattle.std.specs.Prelude.{◌≡◌, ◌≢◌, ◌==◌, ℕ, ◌+◌, List, length, None, true, false}
 use Rattle.std.proofs.lemmas.Bool.Decides.{nat_tests}
@@ -12,7 +12,7 @@ use Rattle.recovery.specs.Opening.{Tells}
 use Rattle.recovery.specs.Opening.Tells.{OfClean, OfChain}
 use Rattle.script_run.specs.Limit.{IsReadLog}
 
--- a superblock that was read and accepted for these measures, which are the device's
+-- a superblock that was read and accepted for the device's measures
 pub read-log : (shape : Shape) (image : Image) (size log_blocks : ℕ) (block : List ℕ) (fields log : Super) → size ≡ shape.block_size →
     log_blocks ≡ shape.log_blocks → block ≡ image Log 0 →
     (let s : Shape = record { block_size = size; log_blocks = log_blocks; home_blocks = shape.home_blocks } in super_refusal s block ≡ None) →
@@ -32,13 +32,13 @@ pub test-started : (start : ℕ) → false ≡ (start == 0) → start ≢ 0
 test-started start test = λ clean. grind (arith, nat_tests)
 
 module _ (shape : Shape) (image : Image) (s : Super) (read : IsReadLog shape image s) where
-  -- those of a clean log
+  -- the report on a clean log
   pub tells-clean : s.s_start ≡ 0 → Tells shape image true s.s_sequence 0
   tells-clean clean =
       subst (λ (t : Super). Tells shape image true t.s_sequence 0) (sym read.same)
       (OfClean (record { accepted = read.accepted; clean = ap (λ (t : Super). t.s_start) (sym read.same) ∙ clean }))
 
-  -- its texts are its chain
+  -- the texts of a log are its chain
   chain-of : s.s_start ≢ 0 → (texts : List Text) → AreTextsOf (super_of image) shape.home_blocks image texts → HasChain shape image texts
   chain-of started texts are = record {
     started = record { accepted = read.accepted; started = λ clean. started (ap (λ (t : Super). t.s_start) read.same ∙ clean) };
@@ -46,7 +46,7 @@ module _ (shape : Shape) (image : Image) (s : Super) (read : IsReadLog shape ima
     undamaged = λ k damaged. are.undamaged k damaged.damaged;
   }
 
-  -- those that a scan counted
+  -- the report on a log that a scan counted
   pub tells-chain : s.s_start ≢ 0 → (count : ℕ) → IsScanned s shape.home_blocks image count → Tells shape image false (s.s_sequence + count) count
   tells-chain started count scanned =
       let are = subst (λ (t : Super). AreTextsOf t shape.home_blocks image scanned.texts) read.same scanned.are in

@@ -1,4 +1,4 @@
--- The moves of the machine behind a stop of a run: the stop, and what an opening then does.
+-- Lemmas: the machine's moves at the stop of a run, and in an opening after it.
 use Rattle.std.proofs.Common.{refl, subst}
 use Rattle.std.specs.Prelude.{◌≡◌, ℕ, List, [], ◌∷◌, ◌++◌, Some, Option}
 use Rattle.journal_model.specs.Disk.{Disk, Image, Leaves, Shape, disk_of}
@@ -16,7 +16,7 @@ use Rattle.script_client.specs.Told.{running_world}
 use Rattle.log_epochs.proofs.Leading.{leads-behind, leads-more}
 use Rattle.log_epochs.proofs.OpeningMoments.{moment-comes}
 
--- the world behind a stop that left this image, with this disk now, in this phase
+-- the world after a stop that left this image, with this disk and phase now
 abbrev pub stopped_world : (opening : Disk) → Journal → Shape → (directs : List (ℕ × List ℕ)) → (answered : List ℕ) → (pin : Image) → Disk → Phase → JournalWorld
 stopped_world opening j shape directs answered pin disk phase = record {
   below = record {
@@ -52,12 +52,12 @@ module _ (start : JournalWorld) (opening : Disk) (j : Journal) (shape : Shape) (
   abbrev epoch_at : Epoch
   epoch_at = record { opening = opening; engine = j.engine; directs = directs; pin = Some pin }
 
-  -- what is pinned stays so
+  -- a pinned image stays pinned
   pinned-stays : (new : Option Epoch) → PinsAtMost (Some epoch_at) new → new ≡ Some epoch_at
   pinned-stays new (Unpinned same) = same
   pinned-stays new (PinnedAt image same) = same
 
-  -- each moment of an opening, in some phase
+  -- each moment of an opening is reached, in some phase
   pub record IsReachedNow (disk : Disk) : Type 0 where
     pub phase : Phase
     pub is : IsReached start (at disk phase)

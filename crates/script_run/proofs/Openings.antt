@@ -1,4 +1,4 @@
--- Verdicts on images that were opened, once or twice.
+-- Lemmas: verdicts on images that were opened once or twice.
 use Rattle.std.proofs.Common.{◌∙◌, ℕ, List, [], Bool, Option, ap, ap₂, refl, subst, sym}
 use Rattle.std.specs.Prelude.{◌≡◌, ◌↔◌, ◌<◌, All, IsTrue, Some, None}
 use Rattle.journal_model.specs.declared.number.Area.{Area}
@@ -33,7 +33,7 @@ use Rattle.script_run.specs.Reopening.IsOpeningVerdict.{Once, Twice}
 use Rattle.script_run.specs.Verdict.{IsImageVerdict, IsRight}
 use Rattle.script_run.proofs.Judging.{HasLimit-from_tells, IsImageVerdict-from}
 
--- what an opening answered for a device in memory, which is that of the image
+-- the answer of an opening on a device in memory is an opened image
 pub opened-image : (image before after : MemState) (opened : OpenedImage) (found : Report) → before ≡ image → opened.device ≡ after → opened.report ≡ found
     → Tells before.shape (reading (state_of before).disk) found.clean found.ends_at found.transactions
     → OpensAs before.shape (reading (state_of before).disk) (reading (state_of after).disk Home)
@@ -49,7 +49,7 @@ opened-image image before after opened found same device report tells opens shap
   shape_is = ap (λ (m : MemState). m.shape) device ∙ shape ∙ ap (λ (m : MemState). m.shape) same;
 }
 
--- calls on a device that stays are calls on the one before, and leave what stays behind them
+-- calls between two unchanged states of a device are calls from the first to the last
 HasMade-between : (calls : List Call) (old mid new end : DeviceState) → Stays old mid → HasMade calls mid new → Stays new end → HasMade calls old end
 HasMade-between calls old mid new end first made last = record {
   shape = last.shape ∙ made.shape ∙ first.shape;
@@ -87,14 +87,14 @@ IsBroken-between old mid new end first (Writing found is begun) last =
       interrupted = IsInterrupted-before begun.due begun.between new end begun.interrupted last;
     })
 
--- what ended is an opened image, and made so few writes
+-- an opening that ended is an opened image, with fewer than `k` writes
 pub whole-attempt : (image : DeviceState) (k : ℕ) (opened : OpenedImage) (a : Attempt) → IsOpenedImage image.shape image.disk opened → IsDone image (state_of opened.device)
     → IsWholeAttempt opened k a → IsAttempt image k a
 whole-attempt image k opened (Whole same) is done h =
     subst (λ (o : OpenedImage). IsOpenedImage image.shape image.disk o × IsBefore image k o.device) (sym h.0) (is, record { calls = done; fewer = h.1 })
 whole-attempt image k opened (Stopped device) is done h = elim h [ ]
 
--- what stopped is left at a moment of the opening
+-- an opening that stopped is at one of its moments
 pub stopped-attempt : (image : DeviceState) (device : MemState) (k : ℕ) (a : Attempt) → device.shape ≡ image.shape
     → IsMoment image.shape image.disk (state_of device).disk → IsBroken image (state_of device)
     → IsStoppedAttempt device k a → IsAttempt image k a
@@ -102,14 +102,14 @@ stopped-attempt image device k (Whole opened) shape moment calls h = elim h [ ]
 stopped-attempt image device k (Stopped same) shape moment calls h =
     subst (λ (m : MemState). IsStoppedAt image k m) (sym h.0) (record { shape_is = shape; moment = moment; calls = calls; last = h.1 })
 
--- the states of a device in memory and of one that stops, which has it behind it: nothing differs but how often they failed
+-- a stopping device and the one inside it differ only in their failures
 pub stays-inside : (s : StopAt MemState) → Stays (stopping state_of s) (state_of (inner_of s))
 stays-inside s = record { shape = refl; disk = refl; past = refl }
 
 pub stays-around : (s : StopAt MemState) → Stays (state_of (inner_of s)) (stopping state_of s)
 stays-around s = record { shape = refl; disk = refl; past = refl }
 
--- a whole opening over a device that stops is one over the device behind it
+-- a whole opening over a stopping device is one over the device inside it
 pub IsDone-inside : (image after : MemState) (old new : StopAt MemState) → inner_of old ≡ image → after ≡ inner_of new
     → IsDone (stopping state_of old) (stopping state_of new) → IsDone (state_of image) (state_of after)
 IsDone-inside image after old new same also done =
@@ -131,7 +131,7 @@ IsMoment-inside image after old new same also moment =
     subst (λ (m : MemState). IsMoment m.shape (state_of m).disk (state_of after).disk) same
     (subst (λ (m : MemState). IsMoment (inner_of old).shape (state_of (inner_of old)).disk (state_of m).disk) (sym also) moment)
 
--- on a device that stays, the same is opened
+-- on an unchanged device, the same is opened
 IsOpenedImage-stays : (opened : OpenedImage) (old new : DeviceState) → Stays old new → IsOpenedImage new.shape new.disk opened
     → IsOpenedImage old.shape old.disk opened
 IsOpenedImage-stays opened old new s h =
@@ -162,7 +162,7 @@ image-verdict sealed shown named right image opened is there right_is =
     (HasLimit-from_tells image.shape (reading (state_of image).disk) opened.report.clean opened.report.ends_at opened.report.transactions is.tells)
     is.opens is.shape_is refl there right_is
 
--- the verdict on what a stop within an opening left, which was opened
+-- the verdict on the crash image of a stopped opening, which was opened
 pub second-verdict : (sealed : History) (shown : Option ℕ) (named : NamedBlocks) (right : Bool) (left : MemState) (opened : OpenedImage) (first : Report)
     → IsOpenedImage left.shape (state_of left).disk opened
     → All (λ b. b < opened.device.shape.home_blocks) (keys named.blocks)
@@ -185,7 +185,7 @@ second-verdict sealed shown named right left opened first is there right_is =
       right_is = both.1;
     }
 
--- the verdict where the opening was not stopped
+-- the verdict if the opening was not stopped
 pub verdict-once : (sealed : History) (shown : Option ℕ) (named : NamedBlocks) (k : ℕ) (keep : List ℕ) (right : Bool) (image mid : MemState) (opened : OpenedImage)
     → Stays (state_of image) (state_of mid) → IsAttempt (state_of mid) k (Whole opened)
     → All (λ b. b < opened.device.shape.home_blocks) (keys named.blocks)
@@ -202,7 +202,7 @@ verdict-once sealed shown named k keep right image mid opened stays is there rig
       verdict = image-verdict sealed shown named right image opened (IsOpenedImage-stays opened (state_of image) (state_of mid) stays is.0) there right_is;
     })
 
--- the verdict where it was: what a crash of the stopped device kept was opened
+-- the verdict if it was: the crash image of the stopped device was opened
 pub verdict-twice : (sealed : History) (shown : Option ℕ) (named : NamedBlocks) (k : ℕ) (keep : List ℕ) (right was_clean : Bool) (limit count : ℕ) (image mid device left : MemState)
     → Stays (state_of image) (state_of mid) → Tells image.shape (reading (state_of image).disk) was_clean limit count
     → IsStoppedAt (state_of mid) k device
@@ -218,7 +218,7 @@ verdict-twice sealed shown named k keep right was_clean limit count image mid de
     let on_disk : Image → Type 0 = λ m. IsSecondVerdict image.shape m was_clean limit sealed shown named right in
     Twice (record { was_clean = was_clean; limit = limit; count = count; first = first; device = device; stopped = at; verdict = subst on_disk disk (subst on_shape shape verdict) })
 
--- a verdict does not hang on the counts of a device
+-- a verdict does not depend on a device's counts
 verdict-stays : (sealed : History) (shown : Option ℕ) (named : NamedBlocks) (k : ℕ) (keep : List ℕ) (right : Bool) (image mid : DeviceState)
     → Stays image mid → IsOpeningVerdict mid k keep sealed shown named right → IsOpeningVerdict image k keep sealed shown named right
 verdict-stays sealed shown named k keep right image mid stays (Once v) =

@@ -1,4 +1,4 @@
--- No opening of what a stop of a run left is refused, nor one of what a stop within such an opening left.
+-- Lemmas: with numbers left, no opening of a run's crash image is refused, nor one of a crash image of such an opening.
 use Rattle.std.proofs.Common.{◌∙◌, ap, arith, length-append, refl, subst, sym}
 use Rattle.std.proofs.lemmas.Bool.Decides.{nat_tests}
 use Rattle.std.proofs.lemmas.List.FromFn.{length-map-range_with_len}
@@ -65,7 +65,7 @@ lap-length r image place = length-map-range_with_len (λ k. image Log (place_fro
 greatest : (shape : Shape) (block : List ℕ) → super_refusal shape block ≡ None → (super_in block).s_maxlen ≤ greatest_length
 greatest shape block accepted = grind (arith, nat_tests)
 
--- so its chain has no more texts
+-- so its chain has no more texts than that
 few-texts : (shape : Shape) (image : Image) (texts : List Text) → HasChain shape image texts → length texts ≤ greatest_length
 few-texts shape image texts has =
     let begins = has.chain.begins in
@@ -76,13 +76,13 @@ few-texts shape image texts has =
     let some : length texts ≤ length (texts_blocks texts) = some-blocks texts in
     omega arith
 
--- what block 0 may say of a number is no more than that of the transaction that comes after the committed ones
+-- the number in block 0 is at most the one after the committed transactions
 low-number : (e : Engine) (v : List ℕ) → (e.released ≤ e.bound) × (e.bound ≤ e.committed) → MayBeSuperblock e v → (super_in v).s_sequence ≤ e.first + e.committed
 low-number e v order (CleanBlock may names) = let high = names.high in omega arith
 low-number e v order (Old names) = let low : e.released ≤ e.bound = order.0 in let high : e.bound ≤ e.committed = order.1 in let is = names.sequence in omega arith
 low-number e v order (New moves names) = let high : e.bound ≤ e.committed = order.1 in let is = names.sequence in omega arith
 
--- the limit of what a stop of a running engine leaves
+-- the limit of a crash image of a running engine
 low-limit : (e : Engine) (disk : Disk) (shape : Shape) (image : Image) (limit : ℕ) → Sound e disk → Leaves disk image → HasLimit shape image limit
     → limit ≤ e.first + e.committed + greatest_length
 low-limit e disk shape image limit sound leaves (OfClean clean) =
@@ -93,7 +93,7 @@ low-limit e disk shape image limit sound leaves (OfChain texts has) =
     let few : length texts ≤ greatest_length = few-texts shape image texts has in
     omega arith
 
--- an image that opens has a limit, which an opening tells
+-- an image that opens has a limit, which its report has
 pub record IsToldOf (shape : Shape) (image : Image) : Type 0 where
   clean : Bool
   ends_at : ℕ
@@ -104,7 +104,7 @@ told-of : (shape : Shape) (image : Image) (got : Volume) → OpensAs shape image
 told-of shape image got (Clean clean none same) = record { clean = true; ends_at = _; transactions = _; tells = TellsClean clean }
 told-of shape image got (Replayed texts has none made) = record { clean = false; ends_at = _; transactions = _; tells = TellsChain texts has }
 
--- nothing is ahead of the limit
+-- no block is ahead of the limit
 none-ahead : (shape : Shape) (image : Image) (got : Volume) (limit : ℕ) → OpensAs shape image got → HasLimit shape image limit → NothingAhead image limit
 none-ahead shape image got limit (Clean clean none same) has = subst (NothingAhead image) (one-limit shape image _ limit (OfClean clean) has) none
 none-ahead shape image got limit (Replayed texts chain none made) has = subst (NothingAhead image) (one-limit shape image _ limit (OfChain texts chain) has) none
@@ -114,7 +114,7 @@ is-accepted : (shape : Shape) (image : Image) (got : Volume) → OpensAs shape i
 is-accepted shape image got (Clean clean none same) = clean.accepted
 is-accepted shape image got (Replayed texts has none made) = has.started.accepted
 
--- so it is not refused, where a number is left
+-- so it is not refused, if a number is left
 opens-unrefused : (shape : Shape) (image : Image) (got : Volume) (e : JournalError) → OpensAs shape image got
     → (e ≡ SequenceEnd → (limit : ℕ) → HasLimit shape image limit → limit < greatest_number) → IsRefused shape image e → ⊥
 opens-unrefused shape image got e opens number (BySuperblock other refused) = none-some other (sym (is-accepted shape image got opens) ∙ refused)
@@ -128,7 +128,7 @@ first-number : (first : ℕ) (ts : History) (t : Transaction) → AreNumbered fi
 first-number first [] t numbered is = absurd (none-some t is)
 first-number first (x ∷ xs) t numbered is = ap (λ (s : Transaction). s.tid) (sym (same_Some x t is)) ∙ numbered.0
 
--- what comes after a limit in an image that a stop of its opening left
+-- an opening after a stopped opening ends at most one number later
 next-limit : (was_clean clean : Bool) (limit ends_at : ℕ) → FollowsOn was_clean limit clean ends_at → ends_at ≤ limit + 1
 next-limit false false limit ends_at is = omega arith
 next-limit false true limit ends_at is = omega arith
@@ -136,7 +136,7 @@ next-limit true true limit ends_at is = omega arith
 next-limit true false limit ends_at is = absurd is
 
 module _ (operations : List Operation) (state : DeviceState) (sealed : History) (shown : Option ℕ) (to : IsLedTo IsZeroHome operations state sealed shown) where
-  -- the world of the journal that was led to
+  -- the world of the journal that the moves lead to
   abbrev end : JournalWorld
   end = running_world to.led.opening to.journal state to.led.directs to.led.answered
 
@@ -153,7 +153,7 @@ module _ (operations : List Operation) (state : DeviceState) (sealed : History) 
       let holds = life-holds to.led.start.below end.below below.0 (begin-holds to.led.start.below to.led.begins.below) below.1 in
       runs-in state.shape (Some epoch) epoch state.disk refl holds.0
 
-  -- where numbers are left, the limit of what a stop leaves is below the greatest number, by one more
+  -- if numbers are left, the limit of a crash image and the next number are below the greatest number
   limit-left : (image : Image) (limit : ℕ) → Leaves state.disk image → HasLimit state.shape image limit → HasNumbersLeft sealed → limit + 1 < greatest_number
   limit-left image limit leaves has left =
       let e : Engine = to.journal.engine in
@@ -168,13 +168,13 @@ module _ (operations : List Operation) (state : DeviceState) (sealed : History) 
       let most = left.left in
       omega arith
 
-  -- what a stop leaves is not refused
+  -- a crash image is not refused, if numbers are left
   image-unrefused : (image : Image) (e : JournalError) → Leaves state.disk image → (e ≡ SequenceEnd → HasNumbersLeft sealed) → IsRefused state.shape image e → ⊥
   image-unrefused image e leaves left refused =
       opens-unrefused state.shape image _ e (promise.now image leaves).opens.opens
       (λ is limit has. let small = limit-left image limit leaves has (left is) in omega arith) refused
 
-  -- nor is what a stop within an opening of that left
+  -- nor is a crash image of a stopped opening of it
   second-unrefused : (image left : Image) (disk : Disk) (e : JournalError) → Leaves state.disk image → IsMoment state.shape (disk_of image) disk → Leaves disk left
       → (e ≡ SequenceEnd → HasNumbersLeft sealed) → IsRefused state.shape left e → ⊥
   second-unrefused image left disk e leaves moment leaves_again numbers refused =
@@ -199,7 +199,7 @@ module _ (operations : List Operation) (state : DeviceState) (sealed : History) 
       let small = limit-left image first.ends_at leaves first_limit (numbers is) in omega arith)
       refused
 
--- where the device and memory did not fail, no opening of what a crash of a run leaves is refused
+-- without device and memory failures, and with numbers left, no opening of a run's crash image is refused
 pub crash-unrefused : (operations : List Operation) (device : MemState) (keep : List ℕ) (sealed : History) (shown : Option ℕ) (image : MemState) (e : JournalError)
     → IsLedTo IsZeroHome operations (state_of device) sealed shown → IsCrashOf device keep image → IsUnopened image.shape (reading (state_of image).disk) e
     → (e ≢ Device) → (e ≢ Memory) → (e ≡ SequenceEnd → HasNumbersLeft sealed) → ⊥
@@ -208,7 +208,7 @@ crash-unrefused operations device keep sealed shown image e to crash why device_
     (subst (λ (s : Shape). IsRefused s (crashed keep device) e) crash.shape_is
     (subst (λ (m : Image). IsRefused image.shape m e) (ap reading (crash-disk device keep image crash)) (why device_is memory_is)))
 
--- nor is one of what a stop within such an opening leaves
+-- nor is one of a crash image of such an opening
 pub again-unrefused : (operations : List Operation) (device : MemState) (keep : List ℕ) (sealed : History) (shown : Option ℕ) (image : MemState) (j : ℕ) (later : MemState) (keep_again : List ℕ)
     (left : MemState) (e : JournalError) → IsLedTo IsZeroHome operations (state_of device) sealed shown → IsCrashOf device keep image → IsStoppedAt (state_of image) j later
     → IsCrashOf later keep_again left → IsUnopened left.shape (reading (state_of left).disk) e

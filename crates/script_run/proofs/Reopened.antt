@@ -1,4 +1,4 @@
--- What an opening finds behind a stop within the opening before.
+-- Lemmas: what an opening finds after a stop within the previous opening.
 use Rattle.std.proofs.Common.{sym, ap, ap₂, subst, ◌∙◌, arith, ⊎_elim}
 use Rattle.std.specs.Prelude.{◌≡◌, ◌≢◌, ℕ, ◌+◌, Bool, List, length}
 use Rattle.std.proofs.lemmas.Bool.Decides.{eqb_tells}
@@ -18,7 +18,7 @@ use Rattle.recovery.specs.Opening.{Tells}
 use Rattle.recovery.specs.Opening.Tells.{OfChain, OfClean}
 use Rattle.script_run.specs.Reopening.{FollowsOn}
 
--- in the same log the same is found
+-- the same log gives the same report
 follows-same : (shape : Shape) (image left : Image) (was_clean clean : Bool) (limit count ends_at transactions : ℕ) → SameLog image left
     → Tells shape image was_clean limit count → Tells shape left clean ends_at transactions → FollowsOn was_clean limit clean ends_at
 follows-same shape image left was_clean clean limit count ends_at transactions same (OfClean is) (OfClean also) = ap (λ (block : List ℕ). (super_in block).s_sequence) (same 0)
@@ -36,7 +36,7 @@ tail-of shape found is has =
     let small = is.number in
     clean-tail shape (found.image Log 0) (next_of found) has.started.accepted is.size (omega arith)
 
--- where that stands, a clean log is found, which names the number behind the chain
+-- after that superblock a clean log is found, with the number after the chain's last
 follows-cleaned : (shape : Shape) (found : Found) (left : Image) (was_clean clean : Bool) (limit count ends_at transactions : ℕ) → IsFound shape found
     → HasChain shape found.image found.texts → left Log 0 ≡ clean_superblock found
     → Tells shape found.image was_clean limit count → Tells shape left clean ends_at transactions → FollowsOn was_clean limit clean ends_at
@@ -49,7 +49,7 @@ follows-cleaned shape found left was_clean clean limit count ends_at transaction
     ap (λ (b : List ℕ). (super_in b).s_sequence) block ∙ (tail-of shape found is chain).sequence
     ∙ ap (λ (n : ℕ). n + 1) (limit_is ∙ ap (λ (ts : List Text). (super_of found.image).s_sequence + length ts) (sym same))
 
--- what a disk that was flushed before may leave of its log, behind the flush of an opening
+-- after the flush of an opening, the log of a crash image reads as before it
 module _ (shape : Shape) (old disk : Disk) (left : Image) (leaves : Leaves disk left) where
   behind-0 : (found : Found) → IsPastFlush shape found old disk → (n : ℕ) → n ≢ 0 → left Log n ≡ (old Log n).reads
   behind-0 found past n some = durable-one (disk Log n) (old Log n).reads (left Log n) (past.log n some) (leaves.each Log n)
@@ -61,7 +61,7 @@ module _ (shape : Shape) (old disk : Disk) (left : Image) (leaves : Leaves disk 
       (λ (some : _ × (n ≢ 0)). behind-0 found past n some.1)
       (eqb_tells n 0)
 
--- what an opening finds in what a stop within the opening before left
+-- the report after a stop within the previous opening follows the first
 pub follows-moment : (shape : Shape) (old disk : Disk) (left : Image) (was_clean clean : Bool) (limit count ends_at transactions : ℕ)
     → ((n : ℕ) → old Log n ≡ durable_cell (old Log n).reads) → KeepsCount shape old disk → Leaves disk left
     → Tells shape (reading old) was_clean limit count → Tells shape left clean ends_at transactions → FollowsOn was_clean limit clean ends_at

@@ -1,4 +1,4 @@
--- A verdict that is reached is ok.
+-- Lemmas: a verdict that is reached is ok.
 use Rattle.std.proofs.Common.{refl, sym, ap, subst, ◌∙◌, arith, inl, inr, ⊎_elim}
 use Rattle.std.proofs.lemmas.Bool.Decides.{nat_tests}
 use Rattle.std.proofs.lemmas.List.Elements.{All-weaker}
@@ -45,7 +45,7 @@ use Rattle.script_run.proofs.Judging.{HasLimit-from_tells}
 use Rattle.script_run.proofs.OpeningMoves.{moment-reaches, stop-reaches, stopped_world}
 use Rattle.script_run.proofs.Reopened.{follows-moment}
 
--- a transaction with this number is told by the greatest one
+-- the greatest number covers this one
 abbrev told-by : ℕ → Option ℕ → Bool
 told-by tid None = false
 told-by tid (Some greatest) = nat_le tid greatest || false
@@ -54,7 +54,7 @@ told-more : (tid n : ℕ) (greatest : Option ℕ) → told-by tid (with_told n g
 told-more tid n None = refl
 told-more tid n (Some m) = grind (arith, nat_tests)
 
--- what is told by the greatest of some numbers is told by one of them
+-- the greatest of some numbers covers this one exactly if one of them does
 told-any : (tid : ℕ) (answered : List ℕ) → told-by tid (greatest_of answered) ≡ list_any (λ n. nat_le tid n) answered
 told-any tid [] = refl
 told-any tid (n ∷ ns) = told-more tid n (greatest_of ns) ∙ ap (λ (b : Bool). nat_le tid n || b) (told-any tid ns)
@@ -67,18 +67,17 @@ owed-told : (greatest : Option ℕ) (ts : History) → owed greatest ts ≡ coun
 owed-told None ts = count-none ts
 owed-told (Some n) ts = refl
 
--- what is owed are those that were answered
+-- the owed transactions are those that were answered
 pub owed-answered : (answered : List ℕ) (ts : History) → owed (greatest_of answered) ts ≡ acknowledged answered ts
 owed-answered answered ts = owed-told (greatest_of answered) ts ∙ (λ i. count_by (λ (t : Transaction). told-any t.tid answered i) ts)
 
--- where the last entry is none, no transaction has one
+-- if the last entry is none, no transaction has one
 none-each : (b : ℕ) (ts : History) (i : ℕ) (t : Transaction) → last_effect b ts ≡ None → slice_get ts i ≡ Some t → effect b t.steps ≡ None
 none-each b [] i t none at = absurd (none-some t at)
 none-each b (x ∷ xs) zero t none at = ap (λ (s : Transaction). effect b s.steps) (sym (same_Some x t at)) ∙ (none-both (effect b x.steps) (last_effect b xs) none).0
 none-each b (x ∷ xs) (suc i) t none at = none-each b xs i t (none-both (effect b x.steps) (last_effect b xs) none).1 at
 
--- bytes that stand at a block whose last entry this is, over what home held: zeros where there is none, unless a direct write
--- names the block
+-- an opening's bytes suit the last entry; without one they are zeros, unless a direct write names the block
 left-by : (e : Option Entry) (direct : Type 0) (size : ℕ) (got home : List ℕ) → got ≡ bytes_of (content_of e) home → (e ≡ None → direct ⊎ (home ≡ replicate size 0)) → IsLeftBy e direct size got
 left-by None direct size got home is held = ⊎_elim (λ (named : direct). inl named) (λ (zeros : home ≡ replicate size 0). inr (is ∙ zeros)) (held refl)
 left-by (Some (Copy v)) direct size got home is held = is
@@ -88,7 +87,7 @@ left-by (Some Revoke) direct size got home is held = tt
 abbrev AreNamed : List (ℕ × List ℕ) → NamedBlocks → Type 0
 AreNamed written named = (b : ℕ) (v : List ℕ) → IsOneOf written (b, v) → Contains (keys named.directs) b
 
--- what is rightly held of a block without an entry are the zeros that the run began with, unless a direct write names it
+-- a permitted value of a block without an entry is zeros, unless a direct write names it
 untouched-held : (shape : Shape) (opening : Disk) (written : List (ℕ × List ℕ)) (named : NamedBlocks) (ts : History) (n b : ℕ) (v : List ℕ) → IsZeroHome shape opening → AreNamed written named
     → last_effect b (take n ts) ≡ None → IsRightlyHeld opening written ts n b v → Contains (keys named.directs) b ⊎ (v ≡ replicate shape.block_size 0)
 untouched-held shape opening written named ts n b v zeros are none (FromOpening one) = inr (durable-one (opening Home b) (replicate shape.block_size 0) v (zeros b) one)
@@ -96,7 +95,7 @@ untouched-held shape opening written named ts n b v zeros are none (FromDirectWr
 untouched-held shape opening written named ts n b v zeros are none (FromCopy i t below at copy) =
     absurd (none-some (Copy v) (sym (none-each b (take n ts) i t none (get-take n ts i below ∙ at)) ∙ copy))
 
--- What an opening makes of a kept image is right.
+-- the opening of a kept image is right
 pub kept-right : (shape : Shape) (epoch : Epoch) (told : Told) (image : Image) (got : Volume) (shown : Option ℕ) (named : NamedBlocks) (n : ℕ) → (kept : Kept shape epoch told image)
     → kept.n ≡ n → IsZeroHome shape epoch.opening → AreNamed epoch.directs named → shown ≡ greatest_of told.answered → OpensAs shape image got
     → All (λ b. b < shape.home_blocks) (keys named.blocks)
@@ -115,7 +114,7 @@ kept-right shape epoch told image got shown named n kept is zeros are greatest o
     subst (λ (k : ℕ). IsRight sealed shown named k shape.block_size got) is
     (record { kept = low; known = kept.high; home_is = All-weaker P Q each (keys named.blocks) there })
 
--- the verdict on an image that the disk of the run may leave
+-- the verdict on any crash image of the run's disk is ok
 image-right : (operations : List Operation) (state : DeviceState) (sealed : History) (shown : Option ℕ) (image : Image) (named : NamedBlocks) (right : Bool) → IsLedTo IsZeroHome operations state sealed shown
     → HasDirects operations (keys named.directs) → Leaves state.disk image → IsImageVerdict state.shape image sealed shown named right → right ≡ true
 image-right operations state sealed shown image named right to direct leaves verdict =
@@ -131,7 +130,7 @@ image-right operations state sealed shown image named right to direct leaves ver
     let good = kept-right state.shape epoch told image verdict.got shown named (numbered_below verdict.limit to.journal.front.sealed) kept same led.fact (λ b v one. direct.all b (led.written b v one)) led.greatest verdict.opens verdict.there in
     verdict.right_is.1 (subst (λ (ts : History). IsRight ts shown named (numbered_below verdict.limit ts) state.shape.block_size verdict.got) sealed_is good)
 
--- the verdict on what a stop within the opening of an image left
+-- so is that on a crash image of a stopped opening of it
 second-right : (operations : List Operation) (state : DeviceState) (sealed : History) (shown : Option ℕ) (image left : Image) (disk : Disk) (was_clean : Bool) (limit count : ℕ) (named : NamedBlocks) (right : Bool)
     → IsLedTo IsZeroHome operations state sealed shown → HasDirects operations (keys named.directs) → Leaves state.disk image → IsMoment state.shape (disk_of image) disk → Leaves disk left
     → Tells state.shape image was_clean limit count
@@ -156,15 +155,15 @@ second-right operations state sealed shown image left disk was_clean limit count
     (moment-keeps state.shape (disk_of image) disk moment) leaves_again first verdict.tells in
     verdict.right_is.1 (follows, subst (λ (ts : History). IsRight ts shown named (numbered_below limit ts) state.shape.block_size verdict.got) (sym to.sealed_is) good)
 
--- what a crash leaves is an image, of a disk where all is durable
+-- a crash image is the disk on which all is durable
 pub crash-disk : (device : MemState) (keep : List ℕ) (image : MemState) → IsCrashOf device keep image → (state_of image).disk ≡ disk_of (crashed keep device)
 crash-disk device keep image crash = λ i a n. crash.each a n i
 
--- a crash leaves what one may leave
+-- what a crash leaves is a crash image
 pub crash-leaves : (device : MemState) (keep : List ℕ) → Leaves (state_of device).disk (crashed keep device)
 crash-leaves device keep = record { each = λ a n. crash_leaves_held keep device.shape.block_size a n device.calls }
 
--- the verdict on what a crash of the run left, once it was opened
+-- the verdict after one opening of a crash image is ok
 once-right : (operations : List Operation) (device : MemState) (keep : List ℕ) (sealed : History) (shown : Option ℕ) (image : MemState) (named : NamedBlocks) (right : Bool)
     → IsLedTo IsZeroHome operations (state_of device) sealed shown → HasDirects operations (keys named.directs)
     → Leaves (state_of device).disk (crashed keep device) → IsCrashOf device keep image
@@ -174,7 +173,7 @@ once-right operations device keep sealed shown image named right to direct leave
     (subst (λ (s : Shape). IsImageVerdict s (crashed keep device) sealed shown named right) crash.shape_is
     (subst (λ (m : Image). IsImageVerdict image.shape m sealed shown named right) (ap reading (crash-disk device keep image crash)) verdict))
 
--- and where its opening was stopped, and what that left was opened
+-- so is that after a stopped opening and a second one
 twice-right : (operations : List Operation) (device : MemState) (keep : List ℕ) (sealed : History) (shown : Option ℕ) (image : MemState) (k : ℕ) (keep_again : List ℕ) (named : NamedBlocks) (right : Bool)
     → IsLedTo IsZeroHome operations (state_of device) sealed shown → HasDirects operations (keys named.directs)
     → Leaves (state_of device).disk (crashed keep device) → IsCrashOf device keep image
@@ -200,7 +199,7 @@ opening-right operations device keep sealed shown image k keep_again named right
 opening-right operations device keep sealed shown image k keep_again named right to direct leaves crash (Twice twice) =
     twice-right operations device keep sealed shown image k keep_again named right to direct leaves crash twice
 
--- the verdict on what a crash of the run left is ok
+-- the verdict on a crash image of the run is ok
 pub by-right : (operations : List Operation) (device : MemState) (keep : List ℕ) (sealed : History) (shown : Option ℕ) (image : MemState) (at_write : Option ℕ) (keep_again : List ℕ) (named : NamedBlocks) (right : Bool)
     → IsLedTo IsZeroHome operations (state_of device) sealed shown → HasDirects operations (keys named.directs) → IsCrashOf device keep image → IsVerdictBy at_write keep_again image sealed shown named right → right ≡ true
 by-right operations device keep sealed shown image None keep_again named right to direct crash verdict =

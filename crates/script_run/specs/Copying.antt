@@ -1,4 +1,4 @@
--- An image that is written to another device.
+-- An image that is copied to another device.
 use Rattle.std.specs.Prelude.{◌≡◌, ◌≢◌, ◌⊎◌, ℕ, ◌<◌, Bool, false, [], Option, Result}
 use Rattle.journal_model.specs.declared.number.Area.{Area}
 use Rattle.journal_model.specs.declared.refusal.JournalError.{JournalError}
@@ -12,28 +12,27 @@ use Rattle.journal_script.specs.declared.script.Script.{Script}
 use Rattle.script_run.specs.declared.stops.Stops.{Stops}
 use Rattle.script_run.specs.Left.{IsEndOf, IsRunTo}
 
--- the device is of the image's shape, and each of its blocks reads as the image's, durably
+-- the device has the image's shape, and each block reads as the image's, durably
 pub record IsCopy (image : MemState) (to : DeviceState) : Type 0 where
   pub shape_is : to.shape ≡ image.shape
   pub each : (a : Area) (n : ℕ) → n < blocks_in image.shape a → to.disk a n ≡ record { reads = ((state_of image).disk a n).reads; others = [] }
 
--- the image was only read: the calls that changed it and its failures are as they were, so that its blocks and what a crash of it
--- leaves are
+-- the image was only read: neither its shape nor its changing calls nor its failures changed, so its contents and its crash images did not
 abbrev pub IsOnlyRead : MemState → MemState → Type 0
 IsOnlyRead old new = (new.shape ≡ old.shape) × (new.calls ≡ old.calls) × (new.faults ≡ old.faults)
 
--- the first k blocks of an area read as the image's, and the blocks of the other area are as they were
+-- the first `k` blocks of an area read as the image's; the other area is unchanged
 pub record HasCopied (area : Area) (k : ℕ) (image old new : Disk) : Type 0 where
   pub copied : (n : ℕ) → n < k → (new area n).reads ≡ (image area n).reads
   pub others : (a : Area) (n : ℕ) → same_area area a ≡ false → new a n ≡ old a n
 
--- calls of a device were made up to the first that failed, if one did, which this answers; the device keeps its shape
+-- device calls were made up to the first that failed, if any, and the result says which; the shape is unchanged
 pub record CallsUntilFailure {A T E : Type 0} (state : A → DeviceState) (Honest : A → Type 0) (result : Result T E) (old new : A) : Type 0 where
   pub shape : (state new).shape ≡ (state old).shape
   pub faults : CountsFaults result (state old) (state new)
   pub honest : Honest new → Honest old
 
--- why an image is not copied: the device is of another shape, and it was not touched; or the device failed, or memory ran out
+-- why an image is not copied: the shapes differ and the device was not touched, or the device failed, or memory ran out
 abbrev pub CopyRefused : MemState → DeviceState → DeviceState → JournalError → Type 0
 CopyRefused image old new e = ((e ≡ Device) × (old.shape ≢ image.shape) × Stays old new) ⊎ IsFailure old new e
 
@@ -41,13 +40,13 @@ CopyRefused image old new e = ((e ≡ Device) × (old.shape ≢ image.shape) × 
 abbrev pub IsCopyTried : MemState → DeviceState → DeviceState → Type 0
 IsCopyTried image old new = IsCopy image new ⊎ ((e : JournalError) × CopyRefused image old new e)
 
--- a run of a script left an image, with this verdict, and the device is a copy of that
+-- a run of the script left an image with this verdict, and the device has a copy of it
 pub record IsCopiedRun (script : Script) (stops : Stops) (to : DeviceState) (right : Bool) : Type 0 where
   pub image : MemState
   pub run : IsRunTo script stops image right
   pub copy : IsCopy image to
 
--- the run of a script came to its end, and left an image, which was copied, or its copy was refused
+-- the run of the script came to its end and left an image, whose copy is done or was refused
 pub record IsTriedRun (script : Script) (stops : Stops) (old new : DeviceState) : Type 0 where
   pub image : MemState
   pub sealed : History

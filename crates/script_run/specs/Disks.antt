@@ -15,22 +15,21 @@ use Rattle.recovery.specs.Values.{OpenedValue}
 use Rattle.journal_script.specs.declared.measures.Measures.{Measures}
 use Rattle.script_client.specs.Told.{IsZeroHome}
 
--- a device of these measures has as many blocks, of so many bytes
 abbrev pub shape_of : Measures → Shape
 shape_of m = record { block_size = m.block_size; log_blocks = m.log_blocks; home_blocks = m.home_blocks }
 
--- a disk of these measures: home is zeros, and the log has the superblock of one that was just formatted, which is clean
+-- a disk of these measures: home is zeros, and the log has the clean superblock of a new format
 pub record IsEmptyLog (m : Measures) (state : DeviceState) : Type 0 where
   pub shape_is : state.shape ≡ shape_of m
   pub home : IsZeroHome state.shape state.disk
   pub superblock : (state.disk Log 0).reads ≡ formatted_super m.block_size m.log_blocks m.uuid m.wide
   pub clean : (super_in (state.disk Log 0).reads).s_start ≡ 0
 
--- the disk behind the device of a run
+-- the disk inside the device of a run
 abbrev pub disk_behind : FailOnce (StopAt MemState) → MemState
 disk_behind device = device.device.device
 
--- the device over a disk that stops at this write, and of which this call fails, where they are named: neither has come yet
+-- the device of a run over a disk: it stops at write `stop`, and its call `fail` fails, if they are named; both counts start at 0
 abbrev pub run_device_over : MemState → (stop fail : Option ℕ) → FailOnce (StopAt MemState)
 run_device_over disk stop fail = record {
   device = record { device = disk; left = unwrap_or stop 0; stopped = false; faults = 0; calls = 0 };
@@ -43,9 +42,8 @@ run_device_over disk stop fail = record {
 abbrev pub run_state : FailOnce (StopAt MemState) → DeviceState
 run_state device = failing (stopping state_of) device
 
--- An empty log of these measures was opened, by a run of the machine from its begin to the answer, whatever came before; and over the disk
--- of that stands a device that stops at this write, and of which this call fails, where they are named: both are counted from behind the
--- opening.
+-- An empty log of these measures was opened, by a whole run of the machine. Over its disk stands a device that stops at write `stop` and
+-- whose call `fail` fails, if they are named; both are counted from the end of the opening.
 pub record IsOpenedAnew (m : Measures) (stop fail : Option ℕ) (opened : OpenedValue (FailOnce (StopAt MemState))) : Type 0 where
   pub formatted : MemState
   pub empty : IsEmptyLog m (state_of formatted)

@@ -1,4 +1,4 @@
--- What a run of a script did and judged, where an opening of what it left may be stopped.
+-- What a run of a script did, what it left, and the verdict on it, also if an opening of the image is stopped.
 use Rattle.std.specs.Prelude.{◌≡◌, ◌⊎◌, ⊤, ℕ, ◌<◌, Bool, List, [], Option, Some, None}
 use Rattle.journal_model.specs.declared.number.Area.{Area}
 use Rattle.journal_model.specs.Disk.{reading}
@@ -22,7 +22,7 @@ use Rattle.script_client.specs.Outcomes.{HasPerformed}
 use Rattle.script_client.specs.Told.{IsLedTo, IsZeroHome}
 use Rattle.script_run.specs.Disks.{IsOpenedAnew, disk_behind, run_state}
 
--- the verdict on an image, by the write at which its opening stops, where one is named, and what it then keeps
+-- the verdict on an image; if a write is named, its opening stops there and keeps `keep`
 abbrev pub IsVerdictBy : Option ℕ → (keep : List ℕ) → MemState → History → Option ℕ → NamedBlocks → Bool → Type 0
 IsVerdictBy None keep image sealed shown named right = IsImageVerdict image.shape (reading (state_of image).disk) sealed shown named right
 IsVerdictBy (Some k) keep image sealed shown named right = IsOpeningVerdict (state_of image) k keep sealed shown named right
@@ -30,13 +30,13 @@ IsVerdictBy (Some k) keep image sealed shown named right = IsOpeningVerdict (sta
 abbrev pub IsLeftVerdict : MemState → Stop → History → Option ℕ → NamedBlocks → Bool → Type 0
 IsLeftVerdict image opening sealed shown named right = IsVerdictBy opening.at_write opening.keep.now image sealed shown named right
 
--- The image is what a crash of the device leaves that keeps these writes, and is durable.
+-- the image is the durable crash image of `device` that keeps these writes
 pub record IsCrashOf (device : MemState) (keep : List ℕ) (image : MemState) : Type 0 where
   pub each : (a : Area) (n : ℕ) → (state_of image).disk a n ≡ record { reads = crashed keep device a n; others = [] }
   pub shape_is : image.shape ≡ device.shape
 
--- A device that was to stop at write k stopped there, and its last write has that number; or it made fewer writes, and stopped at the
--- end. One that was not to stop at a write stopped at the end.
+-- A device that was to stop at write `k` stopped there, and `k` is its last write; or it made fewer writes, and stopped at the end. With no
+-- such write it stopped at the end.
 abbrev pub IsStoppedAtWrite : Option ℕ → Option ℕ → (writes : ℕ) → Type 0
 IsStoppedAtWrite None None writes = ⊤
 IsStoppedAtWrite None (Some at) writes = ⊥
@@ -46,31 +46,29 @@ IsStoppedAtWrite (Some k) (Some at) writes = (at ≡ k) × (writes ≡ k)
 abbrev pub IsStoppedBy : Option ℕ → Stopped → Type 0
 IsStoppedBy stop stopped = IsStoppedAtWrite stop stopped.at_write (writes_of stopped.device.calls)
 
--- the script goes on behind a failure where a call is to fail, and ends with it where the device stops
+-- the script goes on after a failing call, and ends when the device stops
 abbrev pub after_call : Option ℕ → AfterFailure
 after_call None = End
 after_call (Some call) = GoOn
 
--- operations were performed over the device of a run, on this opened log, and came to outcomes of which these are the lines; this disk
--- is behind the device
+-- operations were performed over the device of a run, on this opened log, with outcomes whose lines these are; `device` is its disk
 pub record HasRun (opened : OpenedValue (FailOnce (StopAt MemState))) (operations : List Operation) (after : AfterFailure) (device : MemState) (sealed : History) (shown : Option ℕ)
     (lines : List ℕ) : Type 0 where
   pub over : FailOnce (StopAt MemState)
   pub performs : HasPerformed run_state (λ d. Unit {0}) opened operations after over sealed shown lines
   pub behind : device ≡ disk_behind over
 
--- so a script's were on an empty log of its measures, on a home of zeros, over a device that from then on stops at this write, and of
--- which this call fails, where they are named
+-- the same for a script on an empty log of its measures, with a home of zeros; the device stops at write `stop` and call `fail` fails, if
+-- they are named
 pub record HasRunAnew (script : Script) (stop fail : Option ℕ) (device : MemState) (sealed : History) (shown : Option ℕ) (lines : List ℕ) : Type 0 where
   pub opened : OpenedValue (FailOnce (StopAt MemState))
   pub anew : IsOpenedAnew script.measures stop fail opened
   pub zero : IsZeroHome (run_state opened.device).shape (run_state opened.device).disk
   pub run : HasRun opened script.operations.items (after_call fail) device sealed shown lines
 
--- The end of a script's run: moves of the machine led from an empty log, on a home of zeros, to a device, to the transactions that
--- were sealed, and to the greatest one that was answered committed. Each operation was performed, up to the one at which the script
--- ended, and came to an outcome, of which there is a line. The device stopped at the write that is named, or at the end. The image is
--- what a crash of it leaves, and the blocks are those that the script names.
+-- The end of a script's run. Moves of the machine lead from an empty log, on a home of zeros, to a device, to the sealed transactions, and
+-- to the greatest one that was answered committed. Each operation up to the script's end was performed, and has a line. The device stopped
+-- at the named write or at the end. `image` is a crash image of it, and `named` are the blocks that the script names.
 pub record IsEndOf (script : Script) (stop : Stop) (failing_call : Option ℕ) (image : MemState) (sealed : History) (shown : Option ℕ) (named : NamedBlocks) : Type 0 where
   pub device : MemState
   pub led : IsLedTo IsZeroHome script.operations.items (state_of device) sealed shown
@@ -81,7 +79,7 @@ pub record IsEndOf (script : Script) (stop : Stop) (failing_call : Option ℕ) (
   pub crash : IsCrashOf device stop.keep.now image
   pub names : AreNamedBy script named
 
--- a run of a script that left this image, with this verdict on what openings of it gave, by that record
+-- a run of the script left this image, with this verdict on its openings
 pub record IsRunTo (script : Script) (stops : Stops) (image : MemState) (right : Bool) : Type 0 where
   pub sealed : History
   pub shown : Option ℕ
@@ -89,7 +87,7 @@ pub record IsRunTo (script : Script) (stops : Stops) (image : MemState) (right :
   pub end : IsEndOf script stops.run stops.failing_call image sealed shown named
   pub verdict : IsLeftVerdict image stops.opening sealed shown named right
 
--- a run of a script, with this verdict
+-- a run of the script has this verdict
 pub record IsRunOf (script : Script) (stops : Stops) (right : Bool) : Type 0 where
   pub image : MemState
   pub run : IsRunTo script stops image right

@@ -1,10 +1,10 @@
--- What numbers a run has left.
+-- Whether transaction numbers remain after a run.
 use Rattle.std.specs.Prelude.{◌≡◌, ◌+◌, ◌<◌, ℕ, length, Some, slice_get}
 use Rattle.journal_model.specs.Transaction.{History, Transaction}
 use Rattle.log_model.specs.Opening.{greatest_number}
 use Rattle.log_model.specs.Superblock.{greatest_length}
 
--- these transactions, and as many more as any log has blocks, do not come to the greatest number
+-- these transactions, and as many more as the longest log has blocks, stay below the greatest number
 pub record HasNumbersLeft (ts : History) : Type 0 where
   pub first : Transaction
   pub is_first : slice_get ts 0 ≡ Some first

@@ -9,12 +9,12 @@ use Rattle.block_device.specs.Memory.{state_of}
 use Rattle.recovery.specs.Opening.{Tells}
 use Rattle.script_run.specs.declared.opening.OpenedImage.{OpenedImage}
 
--- what the opening of this disk found is told, and home reads as it gave it
+-- the report is what the opening of this disk found, and home reads as the opening gives it
 pub record IsOpenedImage (shape : Shape) (disk : Disk) (opened : OpenedImage) : Type 0 where
   pub tells : Tells shape (reading disk) opened.report.clean opened.report.ends_at opened.report.transactions
   pub opens : OpensAs shape (reading disk) (reading (state_of opened.device).disk Home)
   pub shape_is : opened.device.shape ≡ shape
 
--- why an image is not opened: memory ran out for it, or the device failed; or else what stands in it is refused, for this cause
+-- why an image is not opened: no memory, a device failure, or a refusal of its contents for this cause
 abbrev pub IsUnopened : Shape → Image → JournalError → Type 0
 IsUnopened shape image e = e ≢ Device → e ≢ Memory → IsRefused shape image e

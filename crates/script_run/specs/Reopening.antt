@@ -1,4 +1,4 @@
--- The verdict where the opening of an image is stopped, and what that left is opened.
+-- The verdict if the opening of an image is stopped, and its crash image is opened again.
 use Rattle.std.specs.Prelude.{◌≡◌, ◌↔◌, ℕ, ◌+◌, ◌<◌, Bool, true, false, IsTrue, List, Option, All}
 use Rattle.journal_model.specs.Disk.{Image, Shape, reading}
 use Rattle.log_model.specs.Opening.{OpensAs, numbered_below}
@@ -15,44 +15,44 @@ use Rattle.script_run.specs.declared.reopening.Attempt.TheVariants.{Whole, Stopp
 use Rattle.script_run.specs.OpenedImages.{IsOpenedImage}
 use Rattle.script_run.specs.Verdict.{IsImageVerdict, IsRight}
 
--- the transactions of a log end at this limit; an opening of what a stop within its opening left finds the same end, or, where it
--- was not clean, a clean log that names the number behind it
+-- the log's transactions end at `limit`; an opening after a stopped opening finds the same end or, if the log was not clean, a clean log
+-- with the next number
 abbrev pub FollowsOn : (was_clean : Bool) (limit : ℕ) (clean : Bool) (ends_at : ℕ) → Type 0
 FollowsOn false limit false ends_at = ends_at ≡ limit
 FollowsOn false limit true ends_at = ends_at ≡ limit + 1
 FollowsOn true limit true ends_at = ends_at ≡ limit
 FollowsOn true limit false ends_at = ⊥
 
--- A device after an opening of this image that was stopped: some of the opening's calls were made, so that it is at one of
--- the opening's moments. Its last write has the number k.
+-- A device whose opening of this image was stopped: some of the opening's calls were made, so the disk is at one of the opening's moments.
+-- Its last write has number `k`.
 pub record IsStoppedAt (image : DeviceState) (k : ℕ) (device : MemState) : Type 0 where
   pub shape_is : device.shape ≡ image.shape
   pub moment : IsMoment image.shape image.disk (state_of device).disk
   pub calls : IsBroken image (state_of device)
   pub last : writes_of device.calls ≡ k
 
--- a device after a whole opening of this image, which made fewer writes than k
+-- a device after a whole opening of this image, with fewer than `k` writes
 pub record IsBefore (image : DeviceState) (k : ℕ) (device : MemState) : Type 0 where
   pub calls : IsDone image (state_of device)
   pub fewer : writes_of device.calls < k
 
--- what came of an opening of this image that was to stop at write k
+-- the result of an opening of this image that was to stop at write `k`
 abbrev pub IsAttempt : DeviceState → ℕ → Attempt → Type 0
 IsAttempt image k (Whole opened) = IsOpenedImage image.shape image.disk opened × IsBefore image k opened.device
 IsAttempt image k (Stopped device) = IsStoppedAt image k device
 
--- the opening ended on this device, and made fewer writes than that
+-- the opening ended on this device, with fewer than `k` writes
 abbrev pub IsWholeAttempt : OpenedImage → ℕ → Attempt → Type 0
 IsWholeAttempt opened k (Whole same) = (same ≡ opened) × (writes_of opened.device.calls < k)
 IsWholeAttempt opened k (Stopped device) = ⊥
 
--- the opening stopped on this device, and its last write has this number
+-- the opening stopped on this device, whose last write has number `k`
 abbrev pub IsStoppedAttempt : MemState → ℕ → Attempt → Type 0
 IsStoppedAttempt device k (Whole opened) = ⊥
 IsStoppedAttempt device k (Stopped same) = (same ≡ device) × (writes_of device.calls ≡ k)
 
--- The verdict on what a stop within an opening left, where the transactions of what was opened first end at this limit: it was
--- opened. The verdict is ok just where that found what such a stop can leave, and what it gave is right by the first count.
+-- The verdict on the crash image of a stopped opening, which was opened; `limit` is where the first image's transactions end. The verdict
+-- is ok exactly if the second opening found what such a stop can leave, and home is right for the transactions below `limit`.
 pub record IsSecondVerdict (shape : Shape) (left : Image) (was_clean : Bool) (limit : ℕ) (sealed : History) (shown : Option ℕ) (named : NamedBlocks) (right : Bool) : Type 0 where
   pub clean : Bool
   pub ends_at : ℕ
@@ -63,13 +63,13 @@ pub record IsSecondVerdict (shape : Shape) (left : Image) (was_clean : Bool) (li
   pub there : All (λ b. b < shape.home_blocks) (keys named.blocks)
   pub right_is : IsTrue right ↔ FollowsOn was_clean limit clean ends_at × IsRight sealed shown named (numbered_below limit sealed) shape.block_size got
 
--- an opening of this image makes fewer writes than k, and this is the verdict on what it gave
+-- an opening of this image makes fewer than `k` writes, and this is the verdict on it
 pub record IsVerdictWithoutStop (image : DeviceState) (k : ℕ) (sealed : History) (shown : Option ℕ) (named : NamedBlocks) (right : Bool) : Type 0 where
   pub device : MemState
   pub before : IsBefore image k device
   pub verdict : IsImageVerdict image.shape (reading image.disk) sealed shown named right
 
--- a device stopped at write k of an opening of this image, and this is the verdict on what it kept
+-- a device stopped at write `k` of an opening of this image, and this is the verdict on its crash image
 pub record IsVerdictBehindStop (image : DeviceState) (k : ℕ) (keep : List ℕ) (sealed : History) (shown : Option ℕ) (named : NamedBlocks) (right : Bool) : Type 0 where
   pub was_clean : Bool
   pub limit : ℕ
@@ -79,7 +79,7 @@ pub record IsVerdictBehindStop (image : DeviceState) (k : ℕ) (keep : List ℕ)
   pub stopped : IsStoppedAt image k device
   pub verdict : IsSecondVerdict image.shape (crashed keep device) was_clean limit sealed shown named right
 
--- the verdict on an image of which an opening stops at its write k: it made fewer writes, or it did stop there
+-- the verdict on an image whose opening stops at write `k`, if it makes that many
 pub data IsOpeningVerdict (image : DeviceState) (k : ℕ) (keep : List ℕ) (sealed : History) (shown : Option ℕ) (named : NamedBlocks) (right : Bool) : Type 0 where
   Once : IsVerdictWithoutStop image k sealed shown named right → IsOpeningVerdict image k keep sealed shown named right
   Twice : IsVerdictBehindStop image k keep sealed shown named right → IsOpeningVerdict image k keep sealed shown named right

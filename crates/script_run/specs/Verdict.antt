@@ -1,4 +1,4 @@
--- What an opening owes after a run, and when it gave that back.
+-- What an opening owes after a run, and whether it gave that back.
 use Rattle.std.specs.Prelude.{◌≡◌, ◌↔◌, ◌⊎◌, ℕ, ◌<◌, ◌≤◌, Bool, IsTrue, List, [], ◌∷◌, length, replicate, take, Option, Some, None, All, Contains, ⊤}
 use Rattle.std.specs.BTreeSet.{keys}
 use Rattle.journal_model.specs.declared.entry.Entry.{Entry}
@@ -10,34 +10,34 @@ use Rattle.journal_model.specs.Transaction.{History, Volume, last_effect}
 use Rattle.block_device.specs.Memory.{MemState, crashed}
 use Rattle.journal_script.specs.declared.script.NamedBlocks.{NamedBlocks}
 
--- how many transactions there are up to the greatest one that was shown committed, if one was
+-- how many transactions are owed: those up to the greatest that was shown committed, if any
 abbrev pub owed : Option ℕ → History → ℕ
 owed None ts = 0
 owed (Some tid) ts = acknowledged (tid ∷ []) ts
 
--- bytes of a block of which this is the last entry: a copy is there; where there is no entry, zeros are, unless a direct write
--- names the block; a block that was revoked keeps what home held, which may be an older copy or a direct write
+-- the bytes that a block may have, by its last entry: a copy's bytes; without an entry zeros, unless a direct write names the block; after
+-- a revoke anything, since home may hold an older copy or a direct write
 abbrev pub IsLeftBy : Option Entry → (direct : Type 0) → ℕ → List ℕ → Type 0
 IsLeftBy None direct size bytes = direct ⊎ (bytes ≡ replicate size 0)
 IsLeftBy (Some (Copy v)) direct size bytes = bytes ≡ v
 IsLeftBy (Some Revoke) direct size bytes = ⊤
 
--- the block is as its last entry left it, where direct writes name these
+-- the block is as its last entry left it, if direct writes name `directs`
 abbrev pub IsLeft : (ℕ → Option Entry) → (directs : List ℕ) → ℕ → Volume → ℕ → Type 0
 IsLeft last directs size home block = IsLeftBy (last block) (Contains directs block) size (home block)
 
--- the block is as the first n transactions left it
+-- the block is as the first `n` transactions left it
 abbrev pub IsAsLeft : History → (directs : List ℕ) → ℕ → ℕ → Volume → ℕ → Type 0
 IsAsLeft sealed directs n size home block = IsLeft (λ b. last_effect b (take n sealed)) directs size home block
 
--- an opening that found the first n transactions gave back what it owes: none that was shown committed is lost, none is
--- there that was not sealed, and each named block is as they left it
+-- an opening that found the first `n` transactions is right: nothing acknowledged is lost, nothing unsealed is there, and each named block
+-- is as these transactions left it
 pub record IsRight (sealed : History) (shown : Option ℕ) (named : NamedBlocks) (n size : ℕ) (home : Volume) : Type 0 where
   pub kept : owed shown sealed ≤ n
   pub known : n ≤ length sealed
   pub home_is : All (IsAsLeft sealed (keys named.directs) n size home) (keys named.blocks)
 
--- the verdict on an image: it was opened, and what that gave is right, or it is not
+-- the verdict on an image: it was opened, and `right` says whether the result is right
 pub record IsImageVerdict (shape : Shape) (image : Image) (sealed : History) (shown : Option ℕ) (named : NamedBlocks) (right : Bool) : Type 0 where
   pub limit : ℕ
   pub has_limit : HasLimit shape image limit
@@ -46,7 +46,7 @@ pub record IsImageVerdict (shape : Shape) (image : Image) (sealed : History) (sh
   pub there : All (λ b. b < shape.home_blocks) (keys named.blocks)
   pub right_is : IsTrue right ↔ IsRight sealed shown named (numbered_below limit sealed) shape.block_size got
 
--- the verdict on a device that stopped: what a crash of it left was opened, and what that gave is right, or it is not
+-- the verdict on a stopped device: its crash image was opened, and `right` says whether the result is right
 pub record IsVerdict (device : MemState) (keep : List ℕ) (sealed : History) (shown : Option ℕ) (named : NamedBlocks) (right : Bool) : Type 0 where
   pub limit : ℕ
   pub has_limit : HasLimit device.shape (crashed keep device) limit

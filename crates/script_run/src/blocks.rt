@@ -8,11 +8,11 @@ use block_device::Device;
 use journal_model::{Area, Block, JournalError};
 use std::alloc::Global;
 
-/// Block `n` of an area.
+/// Reads block `n` of an area.
 ///
 /// # Errors
 ///
-/// `BadBlock` where the area has no such block; `Device` and `Memory`.
+/// `BadBlock`: the area has no such block. `Device`. `Memory`.
 pub fn read_block<D: Device>(
     alloc: Global,
     device: &mut D,

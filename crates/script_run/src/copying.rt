@@ -1,4 +1,4 @@
-//! Writing what a stop left to another device, so that other programs can judge it.
+//! Copies the crash image of a run to another device, so that other programs can judge it.
 ghost use Rattle.std.specs.Prelude.{◌≡◌, ◌<◌, ◌↔◌, ◌⊎◌, length, IfErr, IfOk, IsTrue, OnOk, true};
 ghost use Rattle.std.specs.BTreeSet.{keys};
 ghost use Rattle.journal_model.specs.Disk.{written};
@@ -16,13 +16,13 @@ use script_client::Fault;
 use std::alloc::Global;
 use std::io::Write;
 
-/// Runs a script as `run` does, and writes what its stop left to a device of the script's measures, durably, before that is
-/// opened. So what stands on that device is what the answer is the verdict on.
+/// Runs a script as `run` does, and copies the crash image to a device of the script's measures, durably, before it is opened. The verdict
+/// is on what that device has.
 ///
 /// # Errors
 ///
-/// Those of `run`; `Fault::Refused` with `Device` where `to` is of another shape, or fails: then the lines of the operations were
-/// written and no others. Where the run comes to no end, `to` stays as it is.
+/// Those of `run`. `Fault::Refused` with `Device`: `to` has another shape, or fails; then only the operations' lines were written. If the
+/// run comes to no end, `to` is unchanged.
 pub fn run_copied<D: Device>(
     alloc: Global,
     script: &Script,
@@ -38,11 +38,11 @@ pub fn run_copied<D: Device>(
     judge_copied(alloc, ended.left, to, stops.opening, &ended.named, out)
 }
 
-/// Writes what a crash left to a device of the same shape, durably, and then dumps, opens and judges it as `judge_left` does.
+/// Copies a crash image to a device of the same shape, durably, and then dumps, opens and judges it as `judge_left` does.
 ///
 /// # Errors
 ///
-/// Those of `judge_left`, behind a whole copy; or those of `copy_image`, and then nothing was printed.
+/// Those of `judge_left`, after a whole copy; or those of `copy_image`, and then nothing was printed.
 pub fn judge_copied<D: Device>(
     alloc: Global,
     left: Left,
@@ -60,12 +60,12 @@ pub fn judge_copied<D: Device>(
     judge_left(alloc, left, opening, named, out)
 }
 
-/// Writes each block of both areas of an image to a device of the same shape, by number, the log's first, and makes both areas
-/// durable. The image is only read. It takes memory for one block.
+/// Writes each block of an image to a device of the same shape, by number, the log first, and flushes both areas. The image is only read.
+/// Takes memory for one block.
 ///
 /// # Errors
 ///
-/// `Device` where the device is of another shape, and then it was not touched, or where a write or a flush failed. `Memory`.
+/// `Device`: the shapes differ, and the device was not touched; or a write or a flush failed. `Memory`.
 pub fn copy_image<D: Device>(
     alloc: Global,
     image: &mut MemDevice,
@@ -86,7 +86,6 @@ pub fn copy_image<D: Device>(
     Ok(())
 }
 
-/// Whether a device is of the shape of an image.
 fn are_alike<D: Device>(image: &MemDevice, to: &D) -> bool
     ensures { IsTrue result ↔ ((D.state to.now).shape ≡ image.now.shape) }
 {
@@ -95,7 +94,7 @@ fn are_alike<D: Device>(image: &MemDevice, to: &D) -> bool
         && to.blocks(Area::Home) == image.blocks(Area::Home)
 }
 
-/// Writes both areas of an image by way of a buffer of one block, and makes them durable.
+/// Copies both areas through a buffer of one block, and flushes them.
 fn copy_areas<D: Device>(
     image: &mut MemDevice,
     to: &mut D,
@@ -113,7 +112,6 @@ fn copy_areas<D: Device>(
     to.flush(Area::Home)
 }
 
-/// Writes the blocks of an area of an image.
 fn copy_area<D: Device>(
     image: &mut MemDevice,
     to: &mut D,
@@ -132,7 +130,6 @@ fn copy_area<D: Device>(
     Ok(())
 }
 
-/// Writes one block of an image.
 fn copy_block<D: Device>(
     image: &mut MemDevice,
     to: &mut D,

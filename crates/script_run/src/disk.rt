@@ -10,18 +10,17 @@ use journal_script::Measures;
 use recovery::{Opened, format, open};
 use std::alloc::Global;
 
-/// What `StopAt` and `FailOnce` take for no stop and no failure.
+/// `StopAt` and `FailOnce` take this for no stop and no failure.
 pub(crate) const NEVER: u64 = 0;
 
 /// The device of a run: a disk in memory that may lose power at one of its writes, and of which one call may fail.
 pub type RunDevice = FailOnce<StopAt<MemDevice>>;
 
-/// A disk in memory with these measures and an empty log, all of which is durable. Its writes are numbered from 1.
+/// Makes a disk in memory with an empty log of these measures, all durable. Its writes are numbered from 1.
 ///
 /// # Errors
 ///
-/// `Device` where memory ran out for its blocks. `BadBlockSize` and `BadLength` where the measures are outside their
-/// limits.
+/// `Device`: no memory for its blocks. `BadBlockSize`, `BadLength`: the measures exceed their limits.
 pub fn empty_disk(alloc: Global, measures: &Measures) -> Result<MemDevice, JournalError>
     ensures { IfOk result (λ disk. IsEmptyLog measures.now (state_of disk)) }
 {
@@ -33,11 +32,11 @@ pub fn empty_disk(alloc: Global, measures: &Measures) -> Result<MemDevice, Journ
         &measures.uuid,
         measures.wide,
     )?;
-    // All is flushed, so this loses nothing. The image's writes are numbered from 1.
+    // All is flushed, so this loses nothing, and numbers the writes from 1 again.
     Ok(device.crash(&[]))
 }
 
-/// A device over a disk that stops at write `stop`, or never, and of which call `fail` fails, or none. Both are counted from now on.
+/// A device over a disk that stops at write `stop`, and whose call `fail` fails, if they are given. Both are counted from now on.
 pub fn run_device(disk: MemDevice, stop: Option<u64>, fail: Option<u64>) -> RunDevice
     ensures { result ≡ run_device_over disk stop fail }
 {
@@ -47,12 +46,12 @@ pub fn run_device(disk: MemDevice, stop: Option<u64>, fail: Option<u64>) -> RunD
     )
 }
 
-/// The opened log of an empty disk with these measures, over a device that stops at write `stop`, or never, and of which call `fail`
-/// fails, or none. Both are counted from 1 behind the opening, which makes no write.
+/// Opens an empty log of these measures, over a device that stops at write `stop`, and whose call `fail` fails, if they are given. Both are
+/// counted from 1 after the opening, which makes no write.
 ///
 /// # Errors
 ///
-/// Those of the disk, and `Memory`.
+/// Those of `empty_disk`, and `Memory`.
 pub fn empty_log(
     alloc: Global,
     measures: &Measures,
@@ -69,8 +68,6 @@ pub fn empty_log(
     }
 }
 
-/// The same opened log over a device that stops at write `stop`, or never, and of which call `fail` fails, or none. Both are counted from
-/// now on.
 fn with_stops(opened: Opened<MemDevice>, stop: Option<u64>, fail: Option<u64>) -> Opened<RunDevice>
     ensures device { result.device ≡ run_device_over opened.device stop fail }
     ensures superblock { result.superblock ≡ opened.superblock }

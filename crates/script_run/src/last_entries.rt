@@ -1,4 +1,4 @@
-//! The last operation on each block that leaves an entry of it, in one pass over a run's transactions.
+//! Finds each block's last operation that left an entry, in one pass over a run's transactions.
 ghost use Rattle.std.specs.Prelude.{◌≡◌, ℕ, ◌==◌, [], ◌∷◌, if◌then◌else◌, IfOk, OnOk, is_some, take};
 ghost use Rattle.journal_model.specs.Transaction.{effect, entry_of, last_effect, later};
 ghost use Rattle.script_run.specs.LastEntries.{entry_in};
@@ -7,8 +7,7 @@ use journal_model::{Op, Sealed, Step};
 use std::alloc::{AllocError, Global};
 use std::collections::BTreeMap;
 
-/// The last operation on each block that leaves an entry of it in the first `n` transactions, or in all of them where there are
-/// fewer. It fails where memory runs out.
+/// Each block's last operation that left an entry, in the first `n` transactions or in all if there are fewer. Fails if memory runs out.
 pub(crate) fn last_entries<'a>(
     alloc: Global,
     history: &'a [Sealed],
@@ -19,7 +18,6 @@ pub(crate) fn last_entries<'a>(
     entries_of(alloc, &history[..n.min(history.len())])
 }
 
-/// The last operation on each block that leaves an entry of it in these transactions.
 fn entries_of<'a>(alloc: Global, history: &'a [Sealed]) -> Result<BTreeMap<u64, &'a Op>, AllocError>
     ensures { IfOk result (λ last. (b : ℕ) → entry_in last b ≡ last_effect b history.now) }
 {
@@ -30,7 +28,6 @@ fn entries_of<'a>(alloc: Global, history: &'a [Sealed]) -> Result<BTreeMap<u64, 
     Ok(last)
 }
 
-/// Notes the steps of one more transaction.
 fn note_steps<'a>(last: &mut BTreeMap<u64, &'a Op>, steps: &'a [Step]) -> Result<(), AllocError>
     ensures { OnOk result ((b : ℕ) → entry_in last.new b ≡ later (entry_in last.old b) (effect b steps.now)) }
 {
@@ -40,7 +37,6 @@ fn note_steps<'a>(last: &mut BTreeMap<u64, &'a Op>, steps: &'a [Step]) -> Result
     Ok(())
 }
 
-/// Notes one more step, where it leaves an entry.
 fn note_step<'a>(last: &mut BTreeMap<u64, &'a Op>, step: &'a Step) -> Result<(), AllocError>
     ensures { OnOk result ((b : ℕ) → entry_in last.new b ≡ later (entry_in last.old b) (effect b (step.now ∷ []))) }
 {
@@ -50,7 +46,6 @@ fn note_step<'a>(last: &mut BTreeMap<u64, &'a Op>, step: &'a Step) -> Result<(),
     }
 }
 
-/// Notes an operation as the last one on a block.
 fn note<'a>(last: &mut BTreeMap<u64, &'a Op>, block: u64, op: &'a Op) -> Result<(), AllocError>
     ensures { OnOk result ((b : ℕ) → entry_in last.new b ≡ (if block == b then entry_of op.now else entry_in last.old b)) }
 {

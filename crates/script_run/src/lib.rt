@@ -1,11 +1,4 @@
-//! Runs of scripts: the operations on a journal over a device in memory that stops at one of its writes, or of which one call
-//! fails, what a crash then leaves, and the verdict on what openings of that give back.
-//!
-//! `stops` says where devices stop. `disk` makes the device, and `running` performs the operations on it, crashes it and dumps what
-//! is left. `opening` opens that;
-//! `reopening` does so over a device that stops within the opening, and then once more, with `limit` for where the transactions
-//! end. `verdict` judges what that gave, with `blocks` to read home. `copying` writes what is left to another device before it is
-//! opened.
+//! Runs scripts over a device in memory that stops at a write or fails a call, and judges what openings of the crash image give back.
 #![tactic(auto)]
 
 mod blocks;

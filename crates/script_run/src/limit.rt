@@ -1,4 +1,4 @@
-//! What an opening of a log would find.
+//! Tells what an opening of a log would find, by reads alone.
 ghost use Rattle.std.specs.Prelude.{◌≡◌, IfOk};
 ghost use Rattle.journal_model.specs.Disk.{reading};
 ghost use Rattle.block_device.specs.Call.{OnlyReads};
@@ -14,13 +14,12 @@ use log_scan::{Finder, Log, scan};
 use recovery::Report;
 use std::alloc::Global;
 
-/// What an opening of the log of a device finds, which is read and not written: where its transactions end, and how many there
-/// are. (Whether a block is ahead is not tested.)
+/// Finds where a log's transactions end, and how many there are. It writes nothing, and does not look for a block ahead of the end.
 ///
 /// # Errors
 ///
-/// `BadMagic` to `ErrnoSet` and `BadLength`: the superblock is refused, or there is none. `Damage`: a block of the ring is.
-/// `Device` and `Memory`.
+/// `BadMagic` to `ErrnoSet`, `BadLength`: the superblock is refused, or there is none. `Damage`: a block of the ring is damaged. `Device`.
+/// `Memory`.
 pub(crate) fn report_of<D: Device>(alloc: Global, device: &mut D) -> Result<Report, JournalError>
     ensures tells { IfOk result (λ report. D.honest device.new →
         Tells (D.state device.old).shape (reading (D.state device.old).disk) report.clean report.ends_at report.transactions) }
@@ -44,7 +43,7 @@ pub(crate) fn report_of<D: Device>(alloc: Global, device: &mut D) -> Result<Repo
     })
 }
 
-/// Reads and tests the superblock.
+/// Reads and checks the superblock.
 fn read_log<D: Device>(alloc: Global, device: &mut D) -> Result<Log, JournalError>
     ensures accepted { IfOk result (λ log. IsAccepted (D.state device.old).shape.block_size (D.state device.old).shape.log_blocks log) }
     ensures read { IfOk result (λ log. D.honest device.new → IsReadLog (D.state device.old).shape (reading (D.state device.old).disk) log) }

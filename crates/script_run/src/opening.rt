@@ -1,4 +1,4 @@
-//! Openings of what a stop left, and the verdict on what they give back.
+//! Opens the crash image of a run, and judges what that gives back.
 ghost use Rattle.std.specs.Prelude.{◌↔◌, ◌<◌, All, IfErr, IfOk, IsTrue, OnOk};
 ghost use Rattle.std.specs.BTreeSet.{keys};
 ghost use Rattle.journal_model.specs.declared.number.Area.TheVariants.{Home};
@@ -27,11 +27,11 @@ pub struct OpenedImage {
     pub device: MemDevice,
     /// What the opening found.
     pub report: Report,
-    /// The number that the next transaction would have.
+    /// The number of the next transaction.
     pub next: Tid,
 }
 
-/// Opens an image, and prints what the opening found, how the named blocks of home then begin, and the verdict.
+/// Opens an image, and prints what the opening found, how the named home blocks begin, and the verdict.
 pub(crate) fn judge_image(
     alloc: Global,
     image: MemDevice,
@@ -45,12 +45,12 @@ pub(crate) fn judge_image(
     judge_opened(alloc, opened, recorded, named, out)
 }
 
-/// Prints what an opening found, how the named blocks of home then begin, and the verdict, which is also the answer.
+/// Prints what an opening found, how the named home blocks begin, and the verdict, which is the answer.
 ///
 /// # Errors
 ///
-/// `Fault::Refused` where memory runs out, or home lacks a named block; `Fault::Output` where the output can't be written. Some of
-/// the lines may have been written.
+/// `Fault::Refused`: memory ran out, or home lacks a named block. `Fault::Output`: the output can't be written. Earlier lines may have been
+/// written.
 pub fn judge_opened(
     alloc: Global,
     opened: OpenedImage,
@@ -70,8 +70,7 @@ pub fn judge_opened(
     Ok(right)
 }
 
-/// Prints how the named blocks of home begin on a device whose opening found the first `n` recorded transactions. The answer is
-/// the verdict on them.
+/// Prints how the named home blocks begin, after an opening that found the first `n` recorded transactions. The answer is the verdict.
 pub(crate) fn judge_home<D: Device>(
     alloc: Global,
     device: &mut D,
@@ -87,11 +86,11 @@ pub(crate) fn judge_home<D: Device>(
     Ok(recorded.judge(alloc, device, named, n)?)
 }
 
-/// Opens what a crash left.
+/// Opens the crash image.
 ///
 /// # Errors
 ///
-/// Those of an opening: `Memory` and `Device`, or what stands in the image is refused.
+/// Those of an opening: `Memory`, `Device`, or a refusal of the image's contents.
 pub fn open_image(alloc: Global, image: MemDevice) -> Result<OpenedImage, JournalError>
     ensures opened { IfOk result (IsOpenedImage image.shape (state_of image).disk) }
     ensures err { IfErr result (IsUnopened image.shape (reading (state_of image).disk)) }
@@ -106,12 +105,11 @@ pub fn open_image(alloc: Global, image: MemDevice) -> Result<OpenedImage, Journa
     }
 }
 
-/// Prints the verdict.
 pub(crate) fn write_verdict(out: &mut impl Write, verdict: bool) -> io::Result<()> {
     writeln!(out, "verdict {}", if verdict { "ok" } else { "false" })
 }
 
-/// Prints what an opening found, behind this word.
+/// Prints what an opening found, after this word.
 pub(crate) fn write_opening(
     out: &mut impl Write,
     word: &str,
@@ -127,7 +125,6 @@ pub(crate) fn write_opening(
     }
 }
 
-/// Prints how each named block begins.
 fn write_home<D: Device>(
     alloc: Global,
     device: &mut D,
@@ -143,7 +140,6 @@ fn write_home<D: Device>(
     Ok(())
 }
 
-/// Prints how one block begins.
 fn write_block<D: Device>(
     alloc: Global,
     device: &mut D,
@@ -160,7 +156,6 @@ fn write_block<D: Device>(
     }
 }
 
-/// Prints the line of a block with these bytes.
 fn write_home_line(out: &mut impl Write, block: u64, bytes: &[u8]) -> io::Result<()> {
     let begins = &bytes[..bytes.len().min(PRINTED_BYTES)];
     writeln!(out, "home {block} {}", Hex(begins))

@@ -1,4 +1,4 @@
-//! Openings that stop at one of their writes, and the verdict on what the next opening gives back.
+//! Opens an image over a device that stops at a write of the opening, opens the result again, and judges that.
 ghost use Rattle.std.specs.Prelude.{◌≡◌, ◌↔◌, ◌<◌, All, IfErr, IfOk, IsTrue};
 ghost use Rattle.std.specs.BTreeSet.{keys};
 ghost use Rattle.journal_model.specs.declared.number.Area.TheVariants.{Home};
@@ -23,18 +23,18 @@ use script_client::Fault;
 use std::alloc::Global;
 use std::io::Write;
 
-/// What came of an opening over a device that stops at one of its writes.
+/// The result of an opening over a device that stops at one of its writes.
 #[derive(Drop)]
 pub enum Attempt {
-    /// It ended before that write.
+    /// The opening ended before that write.
     Whole(OpenedImage),
-    /// The device stopped, and this is left of it, with its cache.
+    /// The device stopped; this is left of it, with its cache.
     Stopped(MemDevice),
 }
 
-/// Opens an image over a device that stops at write `k` of the opening, counted from 1, and prints that it did. Of its unflushed
-/// writes those of `keep` are left. That is opened once more, and what the second opening found is printed, how the named blocks
-/// of home then begin, and the verdict. Where the opening makes fewer writes, all is printed as of an image that is opened once.
+/// Opens an image over a device that stops at write `k` of the opening, counted from 1, and keeps of its unflushed writes those of `keep`.
+/// Opens that again, and prints the stop, what the second opening found, how the named home blocks begin, and the verdict. If the opening
+/// makes fewer writes, prints as for an image that is opened once.
 pub(crate) fn judge_stopped_opening(
     alloc: Global,
     image: MemDevice,
@@ -61,7 +61,7 @@ pub(crate) fn judge_stopped_opening(
 ///
 /// # Errors
 ///
-/// Those of an opening, where it failed before that write.
+/// Those of an opening that failed before that write.
 pub fn open_to(alloc: Global, image: MemDevice, k: u64) -> Result<Attempt, JournalError>
     ensures attempt { IfOk result (IsAttempt (state_of image) k) }
     ensures err { IfErr result (IsUnopened image.shape (reading (state_of image).disk)) }
@@ -75,7 +75,7 @@ pub fn open_to(alloc: Global, image: MemDevice, k: u64) -> Result<Attempt, Journ
     }
 }
 
-/// The device on which an opening ended, which made fewer than `k` writes.
+/// A whole opening, which made fewer than `k` writes.
 fn whole(device: MemDevice, report: Report, next: Tid, k: u64) -> Result<Attempt, JournalError>
     ensures whole { IfOk result (IsWholeAttempt (record { device = device; report = report; next = next }) k) }
     ensures other { IfErr result (λ e. e ≡ Device) }
@@ -87,12 +87,12 @@ fn whole(device: MemDevice, report: Report, next: Tid, k: u64) -> Result<Attempt
             next,
         }))
     } else {
-        // Not met: a device that stops at write k never answers Ok to it.
+        // Not reached: a device that stops at write k never answers Ok to it.
         Err(JournalError::Device)
     }
 }
 
-/// The device on which an opening failed so, where write `k` was its last.
+/// A stopped opening, if write `k` was its last; else its error.
 fn stopped(device: MemDevice, k: u64, e: JournalError) -> Result<Attempt, JournalError>
     ensures stopped { IfOk result (IsStoppedAttempt device k) }
     ensures before { IfErr result (λ same. same ≡ e) }
@@ -104,8 +104,8 @@ fn stopped(device: MemDevice, k: u64, e: JournalError) -> Result<Attempt, Journa
     }
 }
 
-/// Opens what a stop within an opening left, where this stood in the image that was opened first, and prints what the second
-/// opening found, how the named blocks of home then begin, and the verdict.
+/// Opens the crash image of a stopped opening, and prints what the second opening found, how the named home blocks begin, and the verdict.
+/// `first` is what the first image's log held.
 fn judge_second(
     alloc: Global,
     left: MemDevice,
@@ -120,13 +120,12 @@ fn judge_second(
     judge_reopened(alloc, opened, first, recorded, named, out)
 }
 
-/// Prints what a second opening found, where this stood in the image that was opened first, how the named blocks of home then
-/// begin, and the verdict, which is also the answer.
+/// Prints what a second opening found, how the named home blocks begin, and the verdict, which is the answer. `first` is what the first
+/// image's log held.
 ///
 /// # Errors
 ///
-/// `Fault::Refused` where memory runs out, or home lacks a named block; `Fault::Output` where the output can't be written. Some of
-/// the lines may have been written.
+/// Those of `judge_opened`.
 pub fn judge_reopened(
     alloc: Global,
     opened: OpenedImage,
@@ -149,8 +148,8 @@ pub fn judge_reopened(
     Ok(verdict)
 }
 
-/// Whether a second opening found what a stop within the first one can leave: the same end, in a clean log where that was clean; or
-/// else a clean log, whose last number is the one behind that end.
+/// Whether a second opening found what a stop within the first can leave: the same end and the same state, or a clean log whose next number
+/// is one more.
 fn follows_on(first: Report, second: Report) -> bool
     ensures { IsTrue result ↔ FollowsOn first.clean first.ends_at second.clean second.ends_at }
 {

@@ -1,4 +1,4 @@
-//! A script's operations over a device that stops, or of which a call fails, and then the verdict on what openings give back.
+//! Runs a script's operations over a device that stops or fails, crashes it, and judges what openings give back.
 ghost use Rattle.std.specs.Prelude.{◌≡◌, ◌↔◌, ℕ, List, [], IfOk, IsTrue, true};
 ghost use Rattle.std.specs.BTreeSet.{keys};
 ghost use Rattle.journal_model.specs.declared.number.Area.{Area};
@@ -25,31 +25,30 @@ use std::alloc::Global;
 use std::io;
 use std::io::Write;
 
-/// What is left of a run when the device has stopped.
+/// A run whose device has stopped.
 #[derive(Drop)]
 pub struct Stopped {
     /// The device, with its cache.
     pub device: MemDevice,
-    /// What the run had recorded.
+    /// What the run recorded.
     pub recorded: Record,
-    /// The write at which the device stopped, where it did before the end.
+    /// The write at which the device stopped, if before the end.
     pub at_write: Option<u64>,
 }
 
-/// What a crash leaves of a stopped run.
+/// The crash image of a stopped run.
 #[derive(Drop)]
 pub struct Left {
     /// The device, with an empty cache.
     pub image: MemDevice,
-    /// What the run had recorded.
+    /// What the run recorded.
     pub recorded: Record,
-    /// The write at which the device stopped, where it did before the end.
+    /// The write at which the device stopped, if before the end.
     pub at_write: Option<u64>,
 }
 
 impl Stopped {
-    /// Takes the power away: the image has of each block the greatest unflushed write that `keep` names, else what was flushed
-    /// last.
+    /// Crashes the device: each block has the greatest unflushed write that `keep` names, else what was flushed last.
     pub fn crash(self, keep: &[u64]) -> Left
         ensures image { (a : Area) (n : ℕ) → (state_of result.image).disk a n ≡ record { reads = crashed keep.now self.device a n; others = [] } }
         ensures numbers { writes_of result.image.calls ≡ 0 }
@@ -70,15 +69,13 @@ impl Stopped {
     }
 }
 
-/// Runs a script over a device in memory, and prints a line for each operation, the dump of what the stop left, and the
-/// verdict on what openings of that give back, which is also the answer. The writes and the calls of the run are numbered from 1
-/// once the device is formatted and opened, and the writes of the opening from 1 again. Where a call is to fail the script goes on
-/// behind it; else it ends with the first operation that the device refuses.
+/// Runs a script over a device in memory. Prints a line for each operation, the dump of the crash image, and the verdict on its openings,
+/// which is also the answer. Writes and calls of the run are numbered from 1 after the format and the opening; writes of the later opening
+/// from 1 again. If a call is to fail, the script goes on after it; else it ends at the first operation that the device refuses.
 ///
 /// # Errors
 ///
-/// `Fault::Refused` where memory runs out; `Fault::Output` where the output can't be written. Some of the lines may have been
-/// written.
+/// `Fault::Refused`: memory ran out. `Fault::Output`: the output can't be written. Earlier lines may have been written.
 pub fn run(
     alloc: Global,
     script: &Script,
@@ -92,10 +89,10 @@ pub fn run(
     judge_left(alloc, ended.left, stops.opening, &ended.named, out)
 }
 
-/// What the stop of a script's run left, and the blocks that the script names.
+/// The crash image of a script's run, and the blocks that the script names.
 #[derive(Drop)]
 pub(crate) struct Ended {
-    /// What the stop left.
+    /// The crash image.
     pub(crate) left: Left,
     /// The blocks that the script names.
     pub(crate) named: NamedBlocks,
@@ -105,8 +102,7 @@ pub(crate) struct Ended {
 ///
 /// # Errors
 ///
-/// `Fault::Refused` where memory runs out; `Fault::Output` where the output can't be written. Some of the lines may have been
-/// written.
+/// Those of `run`.
 pub(crate) fn end_of_run(
     alloc: Global,
     script: &Script,
@@ -127,13 +123,12 @@ pub(crate) fn end_of_run(
     })
 }
 
-/// Runs a script's operations over a device in memory that stops at write `stop`, or at the end, and prints a line for each. Where
-/// `failing_call` is a call, that one fails, and the operations behind it are performed too.
+/// Runs a script's operations over a device in memory that stops at write `stop`, or at the end, and prints a line for each. If call
+/// `failing_call` fails, the operations after it are performed too.
 ///
 /// # Errors
 ///
-/// `Fault::Refused` where memory runs out; `Fault::Output` where the output can't be written. Some of the lines may have been
-/// written.
+/// Those of `run`.
 pub fn run_operations<W: Write>(
     alloc: Global,
     script: &Script,
@@ -151,7 +146,6 @@ pub fn run_operations<W: Write>(
     run_operations_over::<ZeroHome, _>(alloc, opened, &script.operations, after, stop, out)
 }
 
-/// What comes behind a failure, where this call is to fail, or the device is to stop.
 fn after_failing(failing_call: Option<u64>) -> AfterFailure
     ensures { result ≡ after_call failing_call }
 {
@@ -161,13 +155,12 @@ fn after_failing(failing_call: Option<u64>) -> AfterFailure
     }
 }
 
-/// Runs operations over an opened log in memory, of whose disk `H` is known, and prints a line for each. The device stops at write
-/// `stop` of its own, or at the end.
+/// Runs operations on an opened log in memory, whose disk satisfies `H`, and prints a line for each. `stop` is the write at which the
+/// device stops, if it is to stop before the end.
 ///
 /// # Errors
 ///
-/// `Fault::Refused` where memory runs out; `Fault::Output` where the output can't be written. Some of the lines may have been
-/// written.
+/// Those of `run`.
 pub fn run_operations_over<H: HomeFact, W: Write>(
     alloc: Global,
     opened: Opened<RunDevice>,
@@ -187,12 +180,11 @@ pub fn run_operations_over<H: HomeFact, W: Write>(
     if is_stopped_by(stop, &stopped) {
         Ok(stopped)
     } else {
-        // Not met: the device stops at that write, and counts each.
+        // Not reached: the device stops at that write, and counts each.
         Err(Fault::Refused(JournalError::Device))
     }
 }
 
-/// What the performed operations leave.
 fn stopped_of<H: HomeFact>(performed: Performed<RunDevice>, stop: Option<u64>) -> Stopped
     ensures led { (operations : List Operation) → IsLedTo H.holds operations (run_state performed.device) performed.sealed.items performed.acknowledged
         → IsLedTo H.holds operations (state_of result.device) result.recorded.sealed.items result.recorded.acknowledged }
@@ -210,7 +202,7 @@ fn stopped_of<H: HomeFact>(performed: Performed<RunDevice>, stop: Option<u64>) -
     }
 }
 
-/// Whether a device that was to stop at this write did so, or made fewer writes.
+/// Whether a device stopped at `stop`, or made fewer writes.
 fn is_stopped_by(stop: Option<u64>, stopped: &Stopped) -> bool
     ensures { IsTrue result ↔ IsStoppedBy stop stopped.now }
 {
@@ -221,13 +213,13 @@ fn is_stopped_by(stop: Option<u64>, stopped: &Stopped) -> bool
     }
 }
 
-/// Crashes the device with the unflushed writes `keep` kept, dumps the image, opens it, and prints how the named blocks of
-/// home begin and the verdict on what the opening gave back, which is also the answer.
+/// Crashes the device with the unflushed writes of `keep`, dumps the image, opens it, and prints how the named home blocks begin and the
+/// verdict, which is the answer.
 ///
 /// # Errors
 ///
-/// `Fault::Refused` where memory runs out, the image is refused, or home lacks a named block; `Fault::Output` where the
-/// output can't be written. Some of the lines may have been written.
+/// `Fault::Refused`: memory ran out, the image is refused, or home lacks a named block. `Fault::Output`: the output can't be written.
+/// Earlier lines may have been written.
 pub fn judge(
     alloc: Global,
     stopped: Stopped,
@@ -244,14 +236,12 @@ pub fn judge(
     judge_left(alloc, stopped.crash(keep), none, named, out)
 }
 
-/// Dumps what a crash left and opens it, over a device that stops at the write of `opening` where one is named and the opening
-/// makes it: what that leaves is opened once more. Prints how the named blocks of home begin behind the last opening and the
-/// verdict on what it gave back, which is also the answer.
+/// Dumps a crash image and opens it. If `opening` names a write and the opening makes it, the device stops there, and what that leaves is
+/// opened again. Prints how the named home blocks begin after the last opening, and the verdict, which is the answer.
 ///
 /// # Errors
 ///
-/// `Fault::Refused` where memory runs out, an image is refused, or home lacks a named block; `Fault::Output` where the
-/// output can't be written. Some of the lines may have been written.
+/// Those of `judge`.
 pub fn judge_left(
     alloc: Global,
     left: Left,
@@ -273,7 +263,6 @@ pub fn judge_left(
     }
 }
 
-/// Why there is no dump, as a run says it.
 fn of_dump(fault: log_dump::Fault) -> Fault {
     match fault {
         log_dump::Fault::Refused(e) => Fault::Refused(e),
@@ -281,7 +270,6 @@ fn of_dump(fault: log_dump::Fault) -> Fault {
     }
 }
 
-/// Prints at which write the device stopped.
 fn write_stop(out: &mut impl Write, at_write: Option<u64>) -> io::Result<()> {
     match at_write {
         Some(k) => writeln!(out, "stopped {k}"),

@@ -1,4 +1,4 @@
-//! Judges what an opening gave back by what the run had recorded.
+//! Judges what an opening gave back, by what the run recorded.
 ghost use Rattle.std.specs.Prelude.{◌≡◌, ◌↔◌, ◌+◌, ◌<◌, All, Contains, IfOk, IsTrue, None, count_by, length, nat_le, replicate};
 ghost use Rattle.std.specs.BTreeSet.{keys};
 ghost use Rattle.journal_model.specs.declared.number.Area.TheVariants.{Home};
@@ -23,9 +23,9 @@ use std::collections::BTreeMap;
 /// What a run recorded.
 #[derive(Debug, Drop)]
 pub struct Record {
-    /// The transactions that were sealed, in order.
+    /// The sealed transactions, in order.
     pub sealed: Vec<Sealed>,
-    /// The greatest transaction that the run showed committed.
+    /// The greatest transaction that the run was shown committed.
     pub acknowledged: Option<Tid>,
 }
 
@@ -40,7 +40,6 @@ impl Record {
             .count()
     }
 
-    /// How many recorded transactions have a number up to this one.
     fn count_up_to(&self, tid: Tid) -> usize
         ensures { result ≡ count_by (λ t. nat_le t.tid tid) self.now.sealed.items }
     {
@@ -50,7 +49,7 @@ impl Record {
             .count()
     }
 
-    /// How many recorded transactions have to be there: those up to the greatest one that was shown committed.
+    /// How many recorded transactions must be there: those up to the greatest that was shown committed.
     fn count_acknowledged(&self) -> usize
         ensures { result ≡ owed self.now.acknowledged self.now.sealed.items }
     {
@@ -60,8 +59,8 @@ impl Record {
         }
     }
 
-    /// Whether numbers are left behind the recorded transactions: so many that no log that a stop of the run leaves can use them up.
-    /// Where nothing was recorded it is not known.
+    /// Whether the recorded transactions, and as many more as the longest log has blocks, stay below the greatest number. False if nothing
+    /// was recorded.
     pub fn has_numbers_left(&self) -> bool
         ensures { IsTrue result ↔ HasNumbersLeft self.now.sealed.items }
     {
@@ -71,14 +70,13 @@ impl Record {
         }
     }
 
-    /// Whether an opening that found the first `n` recorded transactions gave back what it owes: none acknowledged is lost,
-    /// none is there that was not sealed, and each named block is as those `n` left it. A block of which they have no entry is
-    /// zeros, unless a direct write names it; of one that a direct write names so, and of one that they revoked last, nothing is
-    /// asked.
+    /// Whether an opening that found the first `n` recorded transactions is right: nothing acknowledged is lost, nothing unsealed is there,
+    /// and each named block is as those `n` left it. A block without an entry must be zeros, unless a direct write names it; a block that
+    /// they revoked last may hold anything.
     ///
     /// # Errors
     ///
-    /// `BadBlock` where home has no such block; `Device` and `Memory`.
+    /// `BadBlock`: home has no such block. `Device`. `Memory`.
     pub fn judge<D: Device>(
         &self,
         alloc: Global,
@@ -95,7 +93,6 @@ impl Record {
         self.are_as_left(alloc, device, named, n)
     }
 
-    /// Whether each of these blocks of home is as the first `n` recorded transactions left it.
     fn are_as_left<D: Device>(
         &self,
         alloc: Global,
@@ -111,7 +108,7 @@ impl Record {
     }
 }
 
-/// Whether each of these blocks of home is as these last operations left it.
+/// Whether each named home block is as these last operations left it.
 fn are_left<D: Device>(
     alloc: Global,
     device: &mut D,
@@ -129,7 +126,6 @@ fn are_left<D: Device>(
     Ok(true)
 }
 
-/// Whether a block of home is as these last operations left it.
 fn is_left<D: Device>(
     alloc: Global,
     device: &mut D,
@@ -145,7 +141,6 @@ fn is_left<D: Device>(
     Ok(are_bytes_left(last, named, block, home.bytes()))
 }
 
-/// Whether these are bytes of a block as these last operations left it.
 fn are_bytes_left(last: &BTreeMap<u64, &Op>, named: &NamedBlocks, block: u64, bytes: &[u8]) -> bool
     ensures { IsTrue result ↔ IsLeftBy (entry_in last.now block) (Contains (keys named.now.directs) block) (length bytes.now) bytes.now }
 {
@@ -155,7 +150,7 @@ fn are_bytes_left(last: &BTreeMap<u64, &Op>, named: &NamedBlocks, block: u64, by
     }
 }
 
-/// Whether these are bytes of a block on which this was the last operation that could leave an entry.
+/// Whether a block may have these bytes after this last operation.
 fn are_left_by(op: &Op, named: &NamedBlocks, block: u64, bytes: &[u8]) -> bool
     ensures { IsTrue result ↔ IsLeftBy (entry_of op.now) (Contains (keys named.now.directs) block) (length bytes.now) bytes.now }
 {
@@ -166,22 +161,20 @@ fn are_left_by(op: &Op, named: &NamedBlocks, block: u64, bytes: &[u8]) -> bool
     }
 }
 
-/// Whether these are bytes of a block without an entry: zeros, unless a direct write names it.
+/// Whether a block without an entry may have these bytes: zeros, unless a direct write names it.
 fn are_untouched(named: &NamedBlocks, block: u64, bytes: &[u8]) -> bool
     ensures { IsTrue result ↔ IsLeftBy None (Contains (keys named.now.directs) block) (length bytes.now) bytes.now }
 {
     named.is_direct(block) || are_zeros(bytes)
 }
 
-/// Whether all of these bytes are 0.
 fn are_zeros(bytes: &[u8]) -> bool
     ensures { IsTrue result ↔ (bytes.now ≡ replicate (length bytes.now) 0) }
 {
     bytes.iter().all(|byte| *byte == 0)
 }
 
-/// Whether so many transactions, of which this is the first one's number, and as many more as any log has blocks, do not come to the
-/// greatest number.
+/// Whether `count` transactions from `first` on, and as many more as the longest log has blocks, stay below the greatest number.
 fn are_left_behind(first: Tid, count: usize) -> bool
     ensures { IsTrue result ↔ (first + count + greatest_length + 1 < greatest_number) }
 {

@@ -1,4 +1,4 @@
--- What a choice keeps, bit by bit.
+-- Lemmas: what a choice keeps, bit by bit.
 use Rattle.std.proofs.Common.{◌∙◌, ap, subst, sym, add-one, append-nil, ⊎_elim}
 use Rattle.std.specs.Prelude.{◌≡◌, ◌≢◌, ℕ, ◌+◌, ◌/◌, ◌%◌, ◌^◌, Bool, eqb, false, [], ◌∷◌, ◌++◌, if◌then◌else◌}
 use Rattle.std.proofs.lemmas.Bool.{eq-eqb}
@@ -14,7 +14,7 @@ kept-one first choice n one =
     subst (λ (m : ℕ). kept_from first choice m ≡ kept_from first choice n ++ (first + n) ∷ []) (sym (add-one n))
     (ap (λ (b : Bool). kept_from first choice n ++ (if b then (first + n) ∷ [] else [])) (eq-eqb (choice / 2 ^ n % 2) 1 one))
 
--- any other loses it
+-- any other bit loses it
 pub kept-none : (first choice n : ℕ) → (choice / 2 ^ n % 2 ≢ 1) → kept_from first choice (n + 1) ≡ kept_from first choice n
 kept-none first choice n not =
     subst (λ (m : ℕ). kept_from first choice m ≡ kept_from first choice n) (sym (add-one n))

@@ -1,4 +1,4 @@
--- The verdicts of a sweep on a journal that keeps its contracts.
+-- Lemmas: the verdicts of a sweep of a journal that keeps its contracts.
 use Rattle.std.proofs.Common.{ℕ, Bool, List, [], refl, true}
 use Rattle.std.specs.Prelude.{◌≡◌, ◌↔◌, ◌<◌, All, IsTrue, Some, None}
 use Rattle.journal_model.specs.declared.number.Area.TheVariants.{Home}
@@ -18,7 +18,7 @@ use Rattle.script_run.proofs.Openings.{image-verdict, second-verdict, verdict-tw
 use Rattle.script_run.proofs.Verdicts.{by-right}
 use Rattle.script_sweep.specs.Swept.{HasRunNamed, IsFirst}
 
--- what an opening of a stopped run's image gave is right
+-- the opening of a stopped run's crash image is right
 pub first-right : (stopped : Stopped) (keep : List ℕ) (image : MemState) (opened : OpenedImage) (named : NamedBlocks) (right : Bool) → HasRunNamed stopped named
     → IsCrashOf stopped.device keep image → IsOpenedImage image.shape (state_of image).disk opened
     → All (λ b. b < opened.device.shape.home_blocks) (keys named.blocks)
@@ -28,7 +28,7 @@ first-right stopped keep image opened named right run crash is there verdict =
     by-right run.operations stopped.device keep stopped.recorded.sealed.items stopped.recorded.acknowledged image None [] named right run.run run.directs crash
     (image-verdict stopped.recorded.sealed.items stopped.recorded.acknowledged named right image opened is there verdict)
 
--- and so is what an opening gave of what a stop within it left
+-- so is the opening of a crash image of a stopped opening
 pub again-right : (stopped : Stopped) (keep : List ℕ) (image : MemState) (first : Report) (j : ℕ) (device : MemState) (keep_again : List ℕ) (left : MemState) (opened : OpenedImage)
     (named : NamedBlocks) (right : Bool) → HasRunNamed stopped named → IsCrashOf stopped.device keep image → IsFirst image first → IsStoppedAt (state_of image) j device
     → IsCrashOf device keep_again left → IsOpenedImage left.shape (state_of left).disk opened

@@ -1,4 +1,4 @@
--- What each step of a sweep keeps, and what all of them add up to.
+-- Lemmas: what each step of a sweep keeps, and what the steps add up to.
 use Rattle.std.proofs.Common.{◌∙◌, ap, refl, subst, sym, arith, add-one, rules}
 use Rattle.std.specs.Prelude.{◌≡◌, ℕ, ◌+◌, Bool, true, List, Option, Some, None, Result, Ok, Err, IfOk, OnOk, false}
 use Rattle.journal_model.specs.declared.refusal.JournalError.{JournalError}
@@ -30,12 +30,12 @@ use Rattle.script_sweep.specs.Sweeping.SweepsOpening.{EndsBefore, RefusesBefore,
 use Rattle.script_run.proofs.Refusals.{again-unrefused, crash-unrefused}
 use Rattle.script_sweep.proofs.Right.{again-right, first-right}
 
--- two facts of an answer
+-- two facts of an answer give a third
 pub both-ok : {X E : Type 0} (r : Result X E) (P Q R : X → Type 0) → ((x : X) → P x → Q x → R x) → IfOk r P → IfOk r Q → IfOk r R
 both-ok (Ok x) P Q R on p q = on x p q
 both-ok (Err e) P Q R on p q = p
 
--- a verdict is counted where it is false
+-- exactly the false verdicts are counted
 counts-verdict : (old new : NotRight) (right : Bool) → (right ≡ true → new ≡ old) → (right ≡ false → new ≡ record old { wrong = one_more old.wrong }) → new ≡ counted right old
 counts-verdict old new true ok wrong = ok refl
 counts-verdict old new false ok wrong = wrong refl
@@ -50,42 +50,42 @@ pub judges-again : {T E : Type 0} (stopped : Stopped) (named : NamedBlocks) (fir
 judges-again stopped named first opened right old new (Ok x) verdict ok wrong = record { right = right; verdict = verdict; after = counts-verdict old new right ok wrong }
 judges-again stopped named first opened right old new (Err e) verdict ok wrong = search rules
 
--- an opening of a copy of the image that stopped
+-- an opening of a copy of the image stopped
 pub stops-there : (keeps : Type 0) (image copy : MemState) (j : ℕ) (attempt : Attempt) (device : MemState) → copy ≡ image → attempt ≡ StoppedThere device
     → (keeps → IsAttempt (state_of copy) j attempt) → keeps → IsStoppedAt (state_of image) j device
 stops-there keeps image copy j attempt device same is of holds =
     subst (λ (m : MemState). IsStoppedAt (state_of m) j device) same (subst (λ (a : Attempt). IsAttempt (state_of copy) j a) is (of holds))
 
--- or ended before
+-- or it ended before that
 pub ends-before : (keeps : Type 0) (image copy : MemState) (j : ℕ) (attempt : Attempt) (opened : OpenedImage) → copy ≡ image → attempt ≡ Whole opened
     → (keeps → IsAttempt (state_of copy) j attempt) → keeps → IsBefore (state_of image) j opened.device
 ends-before keeps image copy j attempt opened same is of holds =
     subst (λ (m : MemState). IsBefore (state_of m) j opened.device) same (subst (λ (a : Attempt). IsAttempt (state_of copy) j a) is (of holds)).1
 
--- what each of some steps keeps, all of them keep
+-- what each step keeps, all steps keep
 steps-keep : {S : Type 0} (R : ℕ → S → S → Type 0) (P : S → Type 0) → ((n : ℕ) (s t : S) → R n s t → P s → P t) → (n : ℕ) (s t : S) → Steps R n s t → P s → P t
 steps-keep R P keeps n s t (NoStep x) holds = holds
 steps-keep R P keeps n s u (OneMore m x t y before step) holds = keeps m t y step (steps-keep R P keeps m x t before holds)
 
--- a verdict that is ok is not counted
+-- an ok verdict is not counted
 right-counts : (old new : NotRight) (right : Bool) → right ≡ true → new ≡ counted right old → old ≡ none_wrong → new ≡ none_wrong
 right-counts old new right is after none = after ∙ ap (λ (r : Bool). counted r old) is ∙ none
 
 module _ (keeps : Type 0) (holds : keeps) (stopped : Stopped) (named : NamedBlocks) (run : HasRunNamed stopped named) where
-  -- no refusal of an image of the run is counted
+  -- no refusal of a crash image of the run is counted
   first-opens : (keep : List ℕ) (image : MemState) (e : JournalError) (old new : NotRight) → IsCrashOf stopped.device keep image
       → (keeps → IsUnopened image.shape (reading (state_of image).disk) e) → CountsRefusal stopped e old new → ⊥
   first-opens keep image e old new crash why counts =
       crash-unrefused run.operations stopped.device keep stopped.recorded.sealed.items stopped.recorded.acknowledged image e run.run crash (why holds) counts.device counts.memory counts.numbers
 
-  -- and no verdict on one is false
+  -- no verdict on one is false
   first-keeps : (keep : List ℕ) (image : MemState) (old : NotRight) (found : Option Found) (new : NotRight) → IsCrashOf stopped.device keep image
       → IsJudged keeps stopped named image old found new → old ≡ none_wrong → new ≡ none_wrong
   first-keeps keep image old found new crash (IsOpened opened after is judged) none =
       right-counts old after judged.right (first-right stopped keep image opened named judged.right run crash (is holds) judged.verdict.0 judged.verdict.1) judged.after none
   first-keeps keep image old found new crash (IsRefused e after why counts) none = absurd (first-opens keep image e old after crash why counts)
 
-  -- nor is one on what a stop within its opening left
+  -- nor is one on a crash image of a stopped opening of it
   again-keeps : (keep : List ℕ) (image : MemState) (first : Report) (j : ℕ) (device : MemState) (choice : ℕ) (old new : Counts) → IsCrashOf stopped.device keep image → IsFirst image first
       → (keeps → IsStoppedAt (state_of image) j device) → SweepsAgain keeps stopped named first j device choice old new → old.not_right ≡ none_wrong → new.not_right ≡ none_wrong
   again-keeps keep image first j device choice old new crash tells stop again none =
@@ -148,7 +148,7 @@ failures-right keeps script counts sweep holds =
     (choices_of (writes_of call.stopped.device.calls)) s t call.choices so_far)
     counts.calls none_wrong counts.not_right sweep.calls refl
 
--- a number that no verdict and no image of a stopped opening changes
+-- counts that no verdict and no stopped opening changes
 module _ (f : Counts → ℕ) (still : (c : Counts) (again : ℕ) (n : NotRight) → f (record c { again = again; not_right = n }) ≡ f c) (keeps : Type 0) (stopped : Stopped) (named : NamedBlocks) (image : MemState) where
   opening-still : (first : Report) (j n : ℕ) (old new : Counts) → SweepsOpening keeps stopped named image first j old new → f old ≡ n → f new ≡ n
   opening-still first j n old new (StopsThere device stop again) is =
@@ -167,7 +167,7 @@ found-images : (keeps : Type 0) (stopped : Stopped) (named : NamedBlocks) (image
     → SweepsFound keeps stopped named image found old new → old.images ≡ n → new.images ≡ n
 found-images keeps stopped named image n found old new steps is = found-still (λ (c : Counts). c.images) (λ c again n. refl) keeps stopped named image n found old new steps is
 
--- no step changes how many writes there are
+-- no step changes the number of writes
 pub stops-writes : (keeps : Type 0) (script : Script) (named : NamedBlocks) (n : ℕ) (old new : Counts) → Steps (λ i. SweepsStop keeps script named (i + 1)) n old new → new.writes ≡ old.writes
 stops-writes keeps script named n old new steps =
     steps-keep (λ i. SweepsStop keeps script named (i + 1)) (λ c. c.writes ≡ old.writes)
@@ -179,7 +179,7 @@ stops-writes keeps script named n old new steps =
     (choices_of (i + 1)) s t stop.choices so_far)
     n old new steps refl
 
--- one more, up to the greatest count
+-- capped counts add one
 capped-one : (n : ℕ) → one_more (capped n) ≡ capped (n + 1)
 capped-one n = omega arith
 
@@ -191,7 +191,7 @@ choices-images keeps stopped named k m n old new (OneMore l x t y before step) i
     found-images keeps stopped named step.image (capped (m + (l + 1))) step.sweeps.found (record t { images = one_more t.images; not_right = step.sweeps.judged }) y step.sweeps.openings
     (ap one_more (choices-images keeps stopped named k m l x t before is) ∙ capped-one (m + l) ∙ ap capped (omega arith))
 
--- so the stops at so many writes count all their images
+-- so the stops at `n` writes count all their images
 stops-images : (keeps : Type 0) (script : Script) (named : NamedBlocks) (n : ℕ) (old new : Counts) → Steps (λ i. SweepsStop keeps script named (i + 1)) n old new
     → old.images ≡ 0 → new.images ≡ capped (images_of n)
 stops-images keeps script named n old new (NoStep x) is = is

@@ -26,17 +26,17 @@ use Rattle.script_sweep.specs.declared.judging.Found.{Found}
 use Rattle.script_sweep.specs.Places.{choices_of, kept_of}
 use Rattle.script_sweep.specs.Swept.{HasRun, MakesCalls, one_more}
 
--- a verdict that is false is counted
+-- a false verdict is counted
 abbrev pub counted : Bool → NotRight → NotRight
 counted true n = n
 counted false n = record n { wrong = one_more n.wrong }
 
--- so is an image that is refused
+-- a refused image is counted
 abbrev pub with_refusal : NotRight → NotRight
 with_refusal n = record n { refused = one_more n.refused }
 
--- A refusal that is counted is one of what stands in the image: memory did not run out, the device did not fail, and it is not that
--- the run had no numbers left. (A sweep that meets one of these ends with it.)
+-- A counted refusal is one of the image's contents: memory and the device did not fail, and the run had numbers left. (On any other refusal
+-- the sweep ends.)
 pub record CountsRefusal (stopped : Stopped) (e : JournalError) (old new : NotRight) : Type 0 where
   pub device : e ≢ Device
   pub memory : e ≢ Memory
@@ -51,18 +51,17 @@ capped n = min n (2 ^ 64 - 1)
 abbrev pub not_right_of : NotRight → ℕ
 not_right_of n = capped (n.wrong + n.refused)
 
--- none so far
 abbrev pub none_wrong : NotRight
 none_wrong = record { wrong = 0; refused = 0 }
 
--- the verdict on an opening of what a run left
+-- the verdict on an opening of a run's crash image
 abbrev pub IsFirstVerdict : Stopped → NamedBlocks → OpenedImage → Bool → Type 0
 IsFirstVerdict stopped named opened right =
     All (λ b. b < opened.device.shape.home_blocks) (keys named.blocks)
     × (IsTrue right ↔ IsRight stopped.recorded.sealed.items stopped.recorded.acknowledged named (numbered_below opened.report.ends_at stopped.recorded.sealed.items)
     opened.device.shape.block_size (reading (state_of opened.device).disk Home))
 
--- the verdict on an opening of what a stop within the opening of an image left, in which that found this
+-- the verdict on an opening of the crash image of a stopped opening; `first` is what the first image's log held
 abbrev pub IsAgainVerdict : Stopped → NamedBlocks → Report → OpenedImage → Bool → Type 0
 IsAgainVerdict stopped named first opened right =
     All (λ b. b < opened.device.shape.home_blocks) (keys named.blocks)
@@ -74,13 +73,13 @@ IsAgainVerdict stopped named first opened right =
 abbrev pub found_by : OpenedImage → Found
 found_by opened = record { report = opened.report; writes = writes_of opened.device.calls }
 
--- the verdict on what this opening gave is counted
+-- the verdict on this opening is counted
 pub record JudgesFirst (stopped : Stopped) (named : NamedBlocks) (opened : OpenedImage) (old new : NotRight) : Type 0 where
   pub right : Bool
   pub verdict : IsFirstVerdict stopped named opened right
   pub after : new ≡ counted right old
 
--- an image of what a run left was opened and judged, or it was refused, for what stands in it, and nothing was found: either is counted
+-- a crash image of a run was opened and judged, or its contents were refused; either is counted
 pub data IsJudged (keeps : Type 0) (stopped : Stopped) (named : NamedBlocks) (image : MemState) (old : NotRight) : Option Found → NotRight → Type 0 where
   IsOpened : (opened : OpenedImage) (new : NotRight) → (keeps → IsOpenedImage image.shape (state_of image).disk opened) → JudgesFirst stopped named opened old new →
       IsJudged keeps stopped named image old (Some (found_by opened)) new
@@ -92,14 +91,14 @@ pub record JudgesAgain (stopped : Stopped) (named : NamedBlocks) (first : Report
   pub verdict : IsAgainVerdict stopped named first opened right
   pub after : new ≡ counted right old
 
--- so was an image of what a stop within an opening left
+-- a crash image of a stopped opening was opened and judged, or its contents were refused
 pub data IsJudgedAgain (keeps : Type 0) (stopped : Stopped) (named : NamedBlocks) (first : Report) (image : MemState) (old : NotRight) : NotRight → Type 0 where
   IsOpenedAgain : (opened : OpenedImage) (new : NotRight) → (keeps → IsOpenedImage image.shape (state_of image).disk opened) → JudgesAgain stopped named first opened old new →
       IsJudgedAgain keeps stopped named first image old new
   IsRefusedAgain : (e : JournalError) (new : NotRight) → (keeps → IsUnopened image.shape (reading (state_of image).disk) e) → CountsRefusal stopped e old new →
       IsJudgedAgain keeps stopped named first image old new
 
--- what a device kept by this choice of its last writes, which stopped at write j of an opening, was opened and judged
+-- the crash image of a device that stopped at write `j` of an opening, by this choice of its last writes, was opened and judged
 pub record SweepsAgain (keeps : Type 0) (stopped : Stopped) (named : NamedBlocks) (first : Report) (j : ℕ) (device : MemState) (choice : ℕ) (old new : Counts) : Type 0 where
   pub image : MemState
   pub crash : IsCrashOf device (kept_of j choice) image
@@ -107,8 +106,8 @@ pub record SweepsAgain (keeps : Type 0) (stopped : Stopped) (named : NamedBlocks
   pub is_judged : IsJudgedAgain keeps stopped named first image old.not_right judged
   pub after : new ≡ record old { again = one_more old.again; not_right = judged }
 
--- an opening of an image was stopped at its write j, and so was each choice of what it left; or it was refused before that write. (It
--- may end before that write only where another opening of the image made more.)
+-- an opening of an image was stopped at its write `j`, and each choice of its crash image was judged; or it was refused before that write.
+-- (It ends before that write only if another opening of the image made more writes.)
 pub data SweepsOpening (keeps : Type 0) (stopped : Stopped) (named : NamedBlocks) (image : MemState) (first : Report) (j : ℕ) (old new : Counts) : Type 0 where
   StopsThere : (device : MemState) → (keeps → IsStoppedAt (state_of image) j device) → Steps (SweepsAgain keeps stopped named first j device) (choices_of j) old new →
       SweepsOpening keeps stopped named image first j old new
@@ -116,32 +115,31 @@ pub data SweepsOpening (keeps : Type 0) (stopped : Stopped) (named : NamedBlocks
   RefusesBefore : (e : JournalError) (judged : NotRight) → (keeps → IsUnopened image.shape (reading (state_of image).disk) e) → CountsRefusal stopped e old.not_right judged →
       new ≡ record old { not_right = judged } → SweepsOpening keeps stopped named image first j old new
 
--- an opening of the image was stopped at each of the writes that it made
+-- the opening of the image was stopped at each of its writes
 abbrev pub SweepsFound : (keeps : Type 0) → Stopped → NamedBlocks → MemState → Option Found → Counts → Counts → Type 0
 SweepsFound keeps stopped named image None old new = new ≡ old
 SweepsFound keeps stopped named image (Some found) old new = Steps (λ i. SweepsOpening keeps stopped named image found.report (i + 1)) found.writes old new
 
--- an image was opened and judged, and so was what stops of its opening left
+-- an image was opened and judged, and so were the crash images of its stopped openings
 pub record SweepsImage (keeps : Type 0) (stopped : Stopped) (named : NamedBlocks) (image : MemState) (old new : Counts) : Type 0 where
   pub found : Option Found
   pub judged : NotRight
   pub is_judged : IsJudged keeps stopped named image old.not_right found judged
   pub openings : SweepsFound keeps stopped named image found (record old { not_right = judged }) new
 
--- so was what a run left that stopped at write k, by this choice of its last writes
+-- the same for the crash image of a run that stopped at write `k`, by this choice of its last writes
 pub record SweepsChoice (keeps : Type 0) (stopped : Stopped) (named : NamedBlocks) (k choice : ℕ) (old new : Counts) : Type 0 where
   pub image : MemState
   pub crash : IsCrashOf stopped.device (kept_of k choice) image
   pub sweeps : SweepsImage keeps stopped named image (record old { images = one_more old.images }) new
 
--- a script was run with a stop at write k, and each choice of what it left was swept
+-- a script was run with a stop at write `k`, and each choice of its crash image was swept
 pub record SweepsStop (keeps : Type 0) (script : Script) (named : NamedBlocks) (k : ℕ) (old new : Counts) : Type 0 where
   pub stopped : Stopped
   pub run : keeps → HasRun script (Some k) None stopped
   pub choices : Steps (SweepsChoice keeps stopped named k) (choices_of k) old new
 
--- A sweep of stops: a run of the script that did not stop made so many writes, and each of them was swept. All counts are sums over
--- what was done.
+-- A sweep of stops: a run of the script without a stop made `writes` writes, and each was swept. All counts are sums over what was done.
 pub record IsSweep (keeps : Type 0) (script : Script) (counts : Counts) : Type 0 where
   pub named : NamedBlocks
   pub names : AreNamedBy script named
@@ -155,20 +153,20 @@ abbrev pub images_of : ℕ → ℕ
 images_of zero = 0
 images_of (suc n) = images_of n + choices_of (suc n)
 
--- what a run left by this choice of its last writes was opened and judged
+-- the crash image of a run, by this choice of its last writes, was opened and judged
 pub record FailsChoice (keeps : Type 0) (stopped : Stopped) (named : NamedBlocks) (choice : ℕ) (old new : NotRight) : Type 0 where
   pub image : MemState
   pub crash : IsCrashOf stopped.device (kept_of (writes_of stopped.device.calls) choice) image
   pub found : Option Found
   pub is_judged : IsJudged keeps stopped named image old found new
 
--- a script was run of which call k failed, and each choice of what it left was judged
+-- a script was run with a failure of call `k`, and each choice of its crash image was judged
 pub record FailsCall (keeps : Type 0) (script : Script) (named : NamedBlocks) (k : ℕ) (old new : NotRight) : Type 0 where
   pub stopped : Stopped
   pub run : keeps → HasRun script None (Some k) stopped
   pub choices : Steps (FailsChoice keeps stopped named) (choices_of (writes_of stopped.device.calls)) old new
 
--- A sweep of failing calls: a run of the script of which none failed made so many calls, and each of them was swept.
+-- A sweep of failing calls: a run of the script without a failure made `calls` calls, and each was swept.
 pub record IsFailureSweep (keeps : Type 0) (script : Script) (counts : FailureCounts) : Type 0 where
   pub named : NamedBlocks
   pub names : AreNamedBy script named

@@ -21,22 +21,20 @@ use Rattle.script_run.specs.declared.running.Stopped.{Stopped}
 use Rattle.script_run.specs.Disks.{IsOpenedAnew, run_state}
 use Rattle.script_run.specs.Left.{HasRunAnew, IsStoppedBy}
 
--- a run of a script was led to what it left, over a device that stops at this write, and of which this call fails, where they are named;
--- and there it stopped
+-- a script was run over a device that stops at write `stop` and whose call `fail` fails, if they are named, and the run ended there
 pub record HasRun (script : Script) (stop fail : Option ℕ) (stopped : Stopped) : Type 0 where
   pub led : IsLedTo IsZeroHome script.operations.items (state_of stopped.device) stopped.recorded.sealed.items stopped.recorded.acknowledged
   pub lines : List ℕ
   pub outcomes : HasRunAnew script stop fail stopped.device stopped.recorded.sealed.items stopped.recorded.acknowledged lines
   pub stops : IsStoppedBy stop stopped
 
--- so was one of operations of which these are the direct writes
+-- operations were run whose direct writes are exactly those of `named`
 pub record HasRunNamed (stopped : Stopped) (named : NamedBlocks) : Type 0 where
   pub operations : List Operation
   pub run : IsLedTo IsZeroHome operations (state_of stopped.device) stopped.recorded.sealed.items stopped.recorded.acknowledged
   pub directs : HasDirects operations (keys named.directs)
 
--- a script's operations were performed on an empty log of its measures, over a device that does not stop and of which no call fails, and
--- made so many calls of it
+-- a script's operations were performed on an empty log of its measures, without a stop or a failure, and made so many device calls
 pub record MakesCalls (script : Script) (calls : ℕ) : Type 0 where
   pub opened : OpenedValue (FailOnce (StopAt MemState))
   pub anew : IsOpenedAnew script.measures None None opened
@@ -47,10 +45,10 @@ pub record MakesCalls (script : Script) (calls : ℕ) : Type 0 where
   pub performed : HasPerformed run_state (λ d. Unit {0}) opened script.operations.items End device sealed shown lines
   pub calls_are : calls ≡ calls_of device
 
--- this is what an opening finds in the image
+-- an opening of the image finds this
 abbrev pub IsFirst : MemState → Report → Type 0
 IsFirst image report = Tells image.shape (reading (state_of image).disk) report.clean report.ends_at report.transactions
 
--- a count with one more, which stays at 2^64 - 1
+-- one more, up to 2^64 - 1
 abbrev pub one_more : ℕ → ℕ
 one_more n = min (n + 1) (2 ^ 64 - 1)

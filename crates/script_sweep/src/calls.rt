@@ -1,4 +1,4 @@
-//! How many device calls are made where none fails.
+//! Counts the device calls of a run in which none fails.
 ghost use Rattle.std.specs.Prelude.{IfOk};
 ghost use Rattle.script_sweep.specs.Swept.{MakesCalls};
 
@@ -8,12 +8,12 @@ use script_run::{AfterFailure, AnyHome, Fault, RunDevice, empty_log};
 use std::alloc::Global;
 use std::io;
 
-/// How many device calls a script's operations make, where the device does not stop and no call fails: reads, writes and flushes,
-/// counted behind the opening of the empty log.
+/// How many device calls a script's operations make without a stop or a failure: reads, writes and flushes, counted after the opening of
+/// the empty log.
 ///
 /// # Errors
 ///
-/// `Fault::Refused` where memory runs out.
+/// `Fault::Refused`: memory ran out.
 pub fn calls_of_run(alloc: Global, script: &Script) -> Result<u64, Fault>
     ensures { IfOk result (MakesCalls script.now) }
 {

@@ -1,11 +1,11 @@
-//! What a sweep counts.
+//! The counts of a sweep.
 ghost use Rattle.std.specs.Prelude.{◌≡◌};
 ghost use Rattle.script_sweep.specs.Sweeping.{not_right_of};
 
-/// Openings that did not come to a verdict that is ok.
+/// Openings without an ok verdict.
 #[derive(Clone, Copy, Debug, PartialEq, Eq)]
 pub struct NotRight {
-    /// Those whose verdict is false.
+    /// Those with a false verdict.
     pub wrong: u64,
     /// Those that were refused.
     pub refused: u64,
@@ -22,7 +22,7 @@ impl NotRight {
         }
     }
 
-    /// How many there are. It stays at 2^64 - 1.
+    /// How many there are, up to 2^64 - 1.
     pub fn count(&self) -> u64
         ensures { result ≡ not_right_of self.now }
     {
@@ -30,21 +30,21 @@ impl NotRight {
     }
 }
 
-/// What a sweep of stops counted.
+/// The counts of a sweep of stops.
 #[derive(Clone, Copy, Debug, PartialEq, Eq)]
 pub struct Counts {
     /// The writes of the run that did not stop.
     pub writes: u64,
-    /// The images that stops of runs left.
+    /// The crash images of stopped runs.
     pub images: u64,
-    /// The images that stops of their openings left.
+    /// The crash images of stopped openings.
     pub again: u64,
     /// The openings of both that are not right.
     pub not_right: NotRight,
 }
 
 impl Counts {
-    /// Nothing but the writes of a run.
+    /// The counts at the start, with the writes of a run.
     pub fn of_writes(writes: u64) -> Self
         ensures { result ≡ record { writes = writes; images = 0; again = 0; not_right = record { wrong = 0; refused = 0 } } }
     {
@@ -57,17 +57,17 @@ impl Counts {
     }
 }
 
-/// What a sweep of failing calls counted.
+/// The counts of a sweep of failing calls.
 #[derive(Clone, Copy, Debug, PartialEq, Eq)]
 pub struct FailureCounts {
-    /// The calls of the run of which none failed.
+    /// The calls of the run in which none failed.
     pub calls: u64,
-    /// The openings of what runs left of which one failed that are not right.
+    /// The openings that are not right, of the images of runs with a failed call.
     pub not_right: NotRight,
 }
 
 impl FailureCounts {
-    /// Nothing but the calls of a run.
+    /// The counts at the start, with the calls of a run.
     pub fn of_calls(calls: u64) -> Self
         ensures { result ≡ record { calls = calls; not_right = record { wrong = 0; refused = 0 } } }
     {

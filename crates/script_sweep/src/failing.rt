@@ -1,4 +1,4 @@
-//! A sweep of failing calls, from call to call.
+//! Sweeps failing calls, from call to call.
 ghost use Rattle.std.specs.Prelude.{◌≡◌, ◌+◌, IfOk, OnOk};
 ghost use Rattle.block_device.specs.Memory.{writes_of};
 ghost use Rattle.script_sweep.specs.Steps.{Steps};
@@ -15,14 +15,13 @@ use script_run::Fault;
 use std::alloc::Global;
 use std::io::Write;
 
-/// Runs a script once for each device call that it makes: that call fails and does nothing, the script goes on behind it, and the
-/// device stops at the end. Of each run, each choice of what its last four writes leave makes an image, which is opened and judged.
-/// What is false names itself on `err`: by the options with which `run` shows it, by what was recorded, and by what the opening
-/// found.
+/// Runs a script once for each device call that it makes. That call fails and does nothing, the script goes on, and the device stops at the
+/// end. Each choice of the last four writes gives an image, which is opened and judged. What is not right is printed on `err`, with the
+/// options by which `run` shows it, the record, and what the opening found.
 ///
 /// # Errors
 ///
-/// `Fault::Refused` where memory runs out, or a run is refused for want of numbers; `Fault::Output` where `err` can't be written.
+/// `Fault::Refused`: memory ran out, or the run has no numbers left. `Fault::Output`: `err` can't be written.
 pub fn sweep_failures<J: Swept>(
     alloc: Global,
     journal: &J,
@@ -42,7 +41,7 @@ pub fn sweep_failures<J: Swept>(
     Ok(counts)
 }
 
-/// Lets each call fail in turn, and judges what the run then leaves.
+/// Lets each call fail in turn, and judges the crash images.
 fn fail_calls<J: Swept>(
     alloc: Global,
     journal: &J,
@@ -72,7 +71,7 @@ fn fail_calls<J: Swept>(
 }
 
 impl<J: Swept> Ran<'_, J> {
-    /// Judges all that a run may have left of which call `k` failed.
+    /// Judges all crash images of a run whose call `k` failed.
     fn judge_failure<E: Write>(
         &self,
         k: u64,
@@ -87,7 +86,7 @@ impl<J: Swept> Ran<'_, J> {
         Ok(())
     }
 
-    /// Judges what a run left of which call `k` failed, and which kept this choice of the last writes.
+    /// Judges the crash image that keeps this choice of the last writes.
     fn judge_choice<E: Write>(
         &self,
         k: u64,

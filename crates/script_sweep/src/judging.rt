@@ -1,4 +1,4 @@
-//! What is left of a run, and the verdicts on openings of it.
+//! Opens and judges the crash images of a run, and counts and prints what is not right.
 ghost use Rattle.std.specs.Prelude.{◌≡◌, ◌≢◌, IfOk, IsTrue, OnOk, false, true};
 ghost use Rattle.journal_model.specs.declared.refusal.JournalError.TheVariants.{Device, Memory, SequenceEnd};
 ghost use Rattle.journal_script.specs.Named.{AreNamedBy};
@@ -23,31 +23,27 @@ use std::io::Write;
 /// A run that stopped, on a journal, and the blocks that its script names.
 #[derive(Clone, Copy)]
 pub(crate) struct Ran<'a, J> {
-    /// The allocator.
     pub(crate) alloc: Global,
-    /// The journal.
     pub(crate) journal: &'a J,
-    /// What is left of the run.
+    /// The stopped run.
     pub(crate) stopped: &'a Stopped,
-    /// The blocks.
+    /// The blocks that the script names.
     pub(crate) named: &'a NamedBlocks,
 }
 
 /// What an opening of an image found, and how many writes it made.
 #[derive(Clone, Copy)]
 pub(crate) struct Found {
-    /// What it found.
     pub(crate) report: Report,
-    /// How many writes it made.
     pub(crate) writes: u64,
 }
 
 impl<J: Swept> Ran<'_, J> {
-    /// Opens what the run left, and judges it. Nothing is found where that is refused.
+    /// Opens and judges a crash image. `None`: it was refused.
     ///
     /// # Errors
     ///
-    /// `Fault::Refused` where memory runs out; `Fault::Output` where `err` can't be written.
+    /// `Fault::Refused`: memory ran out, or the refusal is not one of the image's contents. `Fault::Output`: `err` can't be written.
     pub(crate) fn judge_image<E: Write>(
         &self,
         place: Place<'_>,
@@ -73,7 +69,7 @@ impl<J: Swept> Ran<'_, J> {
         }
     }
 
-    /// Judges an opening of what a stop left.
+    /// Judges an opening of a crash image.
     fn judge_first<E: Write>(
         &self,
         place: Place<'_>,
@@ -89,7 +85,7 @@ impl<J: Swept> Ran<'_, J> {
         self.note_verdict(place, None, right, &lines, not_right, err)
     }
 
-    /// Counts a verdict that is false, and names it: what the opening found is in these lines.
+    /// Counts and prints a false verdict; `lines` have what the opening found.
     pub(crate) fn note_verdict<E: Write>(
         &self,
         place: Place<'_>,
@@ -111,7 +107,7 @@ impl<J: Swept> Ran<'_, J> {
         Ok(())
     }
 
-    /// Counts a refused image, and names it. The sweep ends where the refusal is none of what stands in the image.
+    /// Counts and prints a refused image. Fails if the refusal is not one of the image's contents.
     pub(crate) fn note_refusal<E: Write>(
         &self,
         place: Place<'_>,
@@ -131,8 +127,7 @@ impl<J: Swept> Ran<'_, J> {
         Ok(())
     }
 
-    /// Whether an opening is refused so for what stands in the image: memory did not run out, the device did not fail, and the run had
-    /// numbers left.
+    /// Whether a refusal is one of the image's contents: memory and the device did not fail, and the run had numbers left.
     fn is_of_content(&self, e: JournalError) -> bool
         ensures device { IsTrue result → e ≢ Device }
         ensures memory { IsTrue result → e ≢ Memory }
@@ -145,7 +140,7 @@ impl<J: Swept> Ran<'_, J> {
         }
     }
 
-    /// Names what is not right: by the options that show it, and by what the run recorded.
+    /// Prints what is not right: the options that show it, and the record.
     fn name<E: Write>(
         &self,
         place: Place<'_>,
@@ -165,7 +160,6 @@ impl<J: Swept> Ran<'_, J> {
     }
 }
 
-/// A copy of a device.
 pub(crate) fn copy_of(device: &MemDevice) -> Result<MemDevice, JournalError>
     ensures { IfOk result (λ copy. copy ≡ device.now) }
 {
@@ -175,7 +169,7 @@ pub(crate) fn copy_of(device: &MemDevice) -> Result<MemDevice, JournalError>
     }
 }
 
-/// What a crash of a copy of this device leaves that keeps this choice of its last writes up to write `k`, and that choice.
+/// The crash image of this device that keeps this choice of its last writes up to write `k`, and the kept writes.
 pub(crate) fn left_by(
     alloc: Global,
     device: &MemDevice,
@@ -189,14 +183,13 @@ pub(crate) fn left_by(
     Ok((image, keep))
 }
 
-/// What a crash of a copy of this device leaves that keeps these writes.
+/// The crash image of this device that keeps these writes.
 fn crashed(device: &MemDevice, keep: &[u64]) -> Result<MemDevice, JournalError>
     ensures { IfOk result (IsCrashOf device.now keep.now) }
 {
     Ok(copy_of(device)?.crash(keep))
 }
 
-/// The blocks that a script names.
 pub(crate) fn named_blocks(alloc: Global, script: &Script) -> Result<NamedBlocks, JournalError>
     ensures { IfOk result (AreNamedBy script.now) }
 {

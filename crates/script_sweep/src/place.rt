@@ -1,14 +1,14 @@
-//! What happened to a device, and what it kept.
+//! Where a device stopped or failed, and what it kept.
 ghost use Rattle.std.specs.Prelude.{◌≡◌, ◌+◌, ◌≤◌, IfOk, max};
 ghost use Rattle.script_sweep.specs.Places.{choices_of, first_of, kept_of};
 
 use std::alloc::{AllocError, Global};
 use std::fmt;
 
-/// How many of the last writes may be kept or lost.
+/// How many of the last writes may each be kept or lost.
 const LAST_WRITES: u64 = 4;
 
-/// What happened to a device.
+/// A stop or a failure of a device.
 #[derive(Clone, Copy)]
 pub enum Event {
     /// It stopped at this write of a run, counted from 1.
@@ -20,7 +20,7 @@ pub enum Event {
 }
 
 impl Event {
-    /// The option of `run` that lets it happen, its value, and the option that says what is kept then.
+    /// The option of `run` for it, its value, and the option for what is kept.
     fn options(self) -> (&'static str, u64, &'static str) {
         match self {
             Event::Stop(k) => ("stop", k, "keep"),
@@ -30,10 +30,10 @@ impl Event {
     }
 }
 
-/// What happened to a device, and the unflushed writes that it kept. It is told by the options of `run` that show it.
+/// A stop or a failure, and the unflushed writes that the device kept. Displayed as the options of `run` that show it.
 #[derive(Clone, Copy)]
 pub struct Place<'a> {
-    /// What happened.
+    /// The stop or failure.
     pub event: Event,
     /// The writes that were kept.
     pub keep: &'a [u64],
@@ -63,14 +63,14 @@ fn first_of_last(k: u64) -> u64
     k.saturating_sub(LAST_WRITES - 1).max(1)
 }
 
-/// How many choices there are among the last writes up to write `k`, of which there are four, or as many as there were.
+/// How many choices there are among the last four writes up to write `k`, or among all if there are fewer.
 pub fn choices(k: u64) -> u64
     ensures { result ≡ choices_of k }
 {
     1 << k.min(LAST_WRITES)
 }
 
-/// The last writes up to write `k` whose bit is set, the first one's first.
+/// The last writes up to write `k` whose bit is set, in order.
 pub fn choice(alloc: Global, k: u64, bits: u64) -> Result<Vec<u64>, AllocError>
     ensures { IfOk result (λ kept. kept.items ≡ kept_of k bits) }
 {

@@ -1,4 +1,4 @@
-//! A sweep of stops, from stop to stop.
+//! Sweeps stops, from stop to stop.
 ghost use Rattle.std.specs.Prelude.{◌≡◌, ◌+◌, IfOk, OnOk, Some};
 ghost use Rattle.script_sweep.specs.Steps.{Steps};
 ghost use Rattle.script_sweep.specs.Places.{choices_of};
@@ -16,14 +16,13 @@ use script_run::{Attempt, Fault, OpenedImage, judge_reopened};
 use std::alloc::Global;
 use std::io::Write;
 
-/// Runs a script with a stop at each of its writes. Of each stop, each choice of what the last four writes up to it leave makes an
-/// image, which is opened; that opening is stopped at each of its writes in the same way, and what it left is opened once more.
-/// Each of these openings is judged. What is false names itself on `err`: by the options with which `run` shows it, by what was
-/// recorded, and by what the opening found.
+/// Runs a script with a stop at each of its writes. Each choice of the last four writes gives an image, which is opened. That opening is
+/// stopped at each of its writes in the same way, and its crash images are opened. Each opening is judged. What is not right is printed on
+/// `err`, with the options by which `run` shows it, the record, and what the opening found.
 ///
 /// # Errors
 ///
-/// `Fault::Refused` where memory runs out, or a run is refused for want of numbers; `Fault::Output` where `err` can't be written.
+/// `Fault::Refused`: memory ran out, or the run has no numbers left. `Fault::Output`: `err` can't be written.
 pub fn sweep<J: Swept>(
     alloc: Global,
     journal: &J,
@@ -44,7 +43,6 @@ pub fn sweep<J: Swept>(
     Ok(counts)
 }
 
-/// Sweeps the stops at each write.
 fn sweep_stops<J: Swept>(
     alloc: Global,
     journal: &J,
@@ -72,7 +70,7 @@ fn sweep_stops<J: Swept>(
     Ok(())
 }
 
-/// Where a run stopped, and what its opening found.
+/// Where a run stopped, and what the opening of its crash image found.
 #[derive(Clone, Copy)]
 struct First<'a> {
     place: Place<'a>,
@@ -80,7 +78,7 @@ struct First<'a> {
 }
 
 impl<J: Swept> Ran<'_, J> {
-    /// Sweeps all that a stop at write `k` may have left.
+    /// Sweeps all crash images of a stop at write `k`.
     fn sweep_stop<E: Write>(&self, k: u64, counts: &mut Counts, err: &mut E) -> Result<(), Fault>
         ensures { OnOk result (Steps (SweepsChoice J.keeps self.now.stopped.now self.now.named.now k) (choices_of k) counts.old counts.new) }
     {
@@ -90,7 +88,7 @@ impl<J: Swept> Ran<'_, J> {
         Ok(())
     }
 
-    /// Sweeps what a stop at write `k` left that kept this choice of the last writes.
+    /// Sweeps the crash image of a stop at write `k` that keeps this choice of the last writes.
     fn sweep_choice<E: Write>(
         &self,
         k: u64,
@@ -109,7 +107,7 @@ impl<J: Swept> Ran<'_, J> {
         self.sweep_image(place, &image, counts, err)
     }
 
-    /// Opens what a stop left, judges it, and sweeps the stops of its opening.
+    /// Opens and judges a crash image, and sweeps the stops of its opening.
     fn sweep_image<E: Write>(
         &self,
         place: Place<'_>,
@@ -125,7 +123,7 @@ impl<J: Swept> Ran<'_, J> {
         }
     }
 
-    /// Sweeps the stops at each write of the opening of an image, which found this.
+    /// Sweeps a stop at each write of the opening of an image.
     fn sweep_openings<E: Write>(
         &self,
         place: Place<'_>,
@@ -146,7 +144,7 @@ impl<J: Swept> Ran<'_, J> {
         Ok(())
     }
 
-    /// Sweeps all that a stop at write `j` of the opening of an image may have left.
+    /// Sweeps all crash images of a stop at write `j` of the opening of an image.
     fn sweep_opening<E: Write>(
         &self,
         first: First<'_>,
@@ -161,13 +159,13 @@ impl<J: Swept> Ran<'_, J> {
             Ok(Attempt::Stopped(device)) => {
                 self.sweep_stopped_opening(first, j, &device, counts, err)
             }
-            // Not met: the opening of this image made that write.
+            // Not reached: the opening of this image made that write.
             Ok(Attempt::Whole(_)) => Ok(()),
             Err(e) => self.note_refusal(first.place, None, e, &mut counts.not_right, err),
         }
     }
 
-    /// Sweeps all that a device may keep which stopped at write `j` of the opening of an image.
+    /// Sweeps all crash images of a device that stopped at write `j` of an opening.
     fn sweep_stopped_opening<E: Write>(
         &self,
         first: First<'_>,
@@ -184,8 +182,7 @@ impl<J: Swept> Ran<'_, J> {
         Ok(())
     }
 
-    /// Opens what a device left that stopped at write `j` of the opening of an image, and kept this choice of the last writes, and
-    /// judges it by what was found in that image.
+    /// Opens the crash image that keeps this choice of the last writes, and judges it by what the first image's log held.
     fn sweep_again<E: Write>(
         &self,
         first: First<'_>,
@@ -209,7 +206,7 @@ impl<J: Swept> Ran<'_, J> {
         }
     }
 
-    /// Judges an opening of what a stop within the opening of an image left, by what was found in that image.
+    /// Judges an opening of the crash image of a stopped opening.
     fn judge_again<E: Write>(
         &self,
         first: First<'_>,

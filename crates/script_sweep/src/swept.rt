@@ -1,4 +1,4 @@
-//! The journal that is swept.
+//! What a journal must do to be swept.
 ghost use Rattle.std.specs.Prelude.{IfErr, IfOk};
 ghost use Rattle.journal_model.specs.Disk.{reading};
 ghost use Rattle.block_device.specs.Memory.{state_of};
@@ -14,17 +14,17 @@ use script_run::{Attempt, Fault, OpenedImage, Stopped, open_image, open_to, run_
 use std::alloc::Global;
 use std::io;
 
-/// A journal, by what a sweep asks of it: to run a script, and to open what a stop left.
+/// A journal as a sweep uses it: it runs a script, and opens crash images.
 pub trait Swept {
-    /// It does so as the contracts of this project's journal say.
+    /// That it keeps the contracts of this project's journal.
     ghost keeps: { Type 0 };
 
-    /// Runs a script over a device in memory that stops at write `stop`, or at the end. Where `failing_call` is a call, that one fails
-    /// and does nothing, and the operations behind it are performed too. Both are counted from 1 behind the first opening.
+    /// Runs a script over a device in memory that stops at write `stop`, or at the end. If `failing_call` is given, that call fails and
+    /// does nothing, and later operations are performed too. Both are counted from 1 after the first opening.
     ///
     /// # Errors
     ///
-    /// `Fault::Refused` where memory runs out.
+    /// `Fault::Refused`: memory ran out.
     fn run(
         &self,
         alloc: Global,
@@ -34,28 +34,28 @@ pub trait Swept {
     ) -> Result<Stopped, Fault>
         ensures { IfOk result (λ stopped. keeps → HasRun script.now stop failing_call stopped) };
 
-    /// How many device calls a run of a script makes behind the first opening, where none fails: its reads, writes and flushes.
+    /// How many device calls (reads, writes and flushes) a run of a script makes after the first opening, if none fails.
     ///
     /// # Errors
     ///
-    /// `Fault::Refused` where memory runs out.
+    /// `Fault::Refused`: memory ran out.
     fn calls(&self, alloc: Global, script: &Script) -> Result<u64, Fault>
         ensures { IfOk result (λ calls. keeps → MakesCalls script.now calls) };
 
-    /// Opens what a crash left.
+    /// Opens a crash image.
     ///
     /// # Errors
     ///
-    /// Those of an opening: `Memory` and `Device`, or what stands in the image is refused.
+    /// Those of an opening: `Memory`, `Device`, or a refusal of the image's contents.
     fn open(&self, alloc: Global, image: MemDevice) -> Result<OpenedImage, JournalError>
         ensures opened { IfOk result (λ opened. keeps → IsOpenedImage image.shape (state_of image).disk opened) }
         ensures err { IfErr result (λ e. keeps → IsUnopened image.shape (reading (state_of image).disk) e) };
 
-    /// Opens what a crash left over a device that stops at write `k` of the opening, counted from 1.
+    /// Opens a crash image over a device that stops at write `k` of the opening, counted from 1.
     ///
     /// # Errors
     ///
-    /// Those of an opening, where it failed before that write.
+    /// Those of an opening that failed before that write.
     fn open_to(&self, alloc: Global, image: MemDevice, k: u64) -> Result<Attempt, JournalError>
         ensures attempt { IfOk result (λ attempt. keeps → IsAttempt (state_of image) k attempt) }
         ensures err { IfErr result (λ e. keeps → IsUnopened image.shape (reading (state_of image).disk) e) };

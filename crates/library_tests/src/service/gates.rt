@@ -1,4 +1,4 @@
-//! Gates that hold a thread until another has come to a point, and give up after a limit of looks.
+//! Gates that hold a thread until another reaches a point, and give up after a limit of looks.
 use std::sync::atomic::{AtomicU64, Ordering};
 use std::thread;
 use volume_service::{Gate, Point};
@@ -6,7 +6,7 @@ use volume_service::{Gate, Point};
 /// How often a gate looks before it gives up.
 const LOOKS: u32 = 2_000_000;
 
-/// Looks until the word is so great. It answers whether it came to that.
+/// Looks until the word is at least that. Returns whether it came to that.
 fn comes_to(word: &AtomicU64, least: u64) -> bool {
     for _ in 0..LOOKS {
         if word.load(Ordering::SeqCst) >= least {
@@ -32,7 +32,7 @@ impl Meeting {
         }
     }
 
-    /// Whether they never met.
+    /// Whether that never happened.
     pub(crate) fn failed(&self) -> bool {
         self.given_up.load(Ordering::SeqCst) != 0
     }
@@ -68,7 +68,7 @@ impl Overtaking {
         }
     }
 
-    /// Whether nobody wrote while the write was held.
+    /// Whether the gate gave up.
     pub(crate) fn failed(&self) -> bool {
         self.given_up.load(Ordering::SeqCst) != 0
     }

@@ -1,4 +1,4 @@
-//! Clients of a type of one's own, over a device in memory.
+//! Clients of a type of the caller's own, over a device in memory.
 ghost use Rattle.std.specs.Prelude.{◌≡◌};
 
 use super::LOG_BLOCKS;
@@ -14,14 +14,14 @@ use std::test::Fail;
 use std::thread::Threads;
 use volume_service::{Client, Gate, OpenGate, Session, serve_clients};
 
-/// Writes a block and revokes another, lets its handle stop, writes the second one by a handle that it waits for, and reads what it wrote.
+/// Writes a block and revokes the next, writes that through a second handle which it waits for, and reads the first block.
 #[derive(Clone, Copy, Debug)]
 struct Looker {
     alloc: Global,
     block: u64,
 }
 
-/// What a client tells: its number, the most credits, the byte that the first write left, and why a short buffer was refused.
+/// A client's answer: its number, the most credits, the byte that the first write left, and the result of a read into a short buffer.
 type Told = (usize, u64, Option<u8>, Result<(), JournalError>);
 
 impl<J: JournalName, D: Device, R: Record, G: Gate> Client<J, D, R, G> for Looker {
@@ -61,7 +61,7 @@ impl<J: JournalName, D: Device, R: Record, G: Gate> Client<J, D, R, G> for Looke
     }
 }
 
-/// Runs two clients over a laid journal, and closes it. It answers what each told, and how many transactions are home.
+/// Runs two clients over an unnamed journal, and closes it. Returns their answers, and whether the close succeeded.
 fn look<J: JournalName + Send + Sync, R: Threads + Wait + Sync>(
     rt: &R,
     alloc: Global,

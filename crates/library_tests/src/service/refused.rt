@@ -1,5 +1,5 @@
-//! Clients of whose run one request for memory may be refused, whichever it is. In the gate none is: `bench/refused_memory.py` runs this
-//! test once for each request, and refuses it.
+//! Clients whose run may be refused one request for memory, whichever it is. In the gate none is: `bench/refused_memory.py` runs this test
+//! once for each request, and refuses it.
 use super::{LOG_BLOCKS, Summary, try_run, two_clients};
 use crate::logs::BLOCK_SIZE;
 use block_device::{Device, MemDevice};
@@ -12,12 +12,12 @@ use std::process::Abort;
 use std::test::Fail;
 use volume_service::OpenGate;
 
-/// Stops where a call was refused for anything but memory, its own or that of the device, which is in memory.
+/// Asserts that a refusal is for memory: the call's own, or that of the device, which is in memory.
 fn want<R: Abort>(rt: &R, e: JournalError) {
     assert!(rt; e == JournalError::Memory || e == JournalError::Device);
 }
 
-/// A device in memory with a new log. Where that is refused it is made again.
+/// A device in memory with a new log, made again if that is refused.
 fn formatted<R: Abort>(rt: &R, alloc: Global) -> MemDevice {
     let mut device = MemDevice::new(alloc, BLOCK_SIZE, u64::from(LOG_BLOCKS), 64);
     if let Err(e) = recovery::format(&mut device, LOG_BLOCKS, &[7; 16], false) {
@@ -27,7 +27,7 @@ fn formatted<R: Abort>(rt: &R, alloc: Global) -> MemDevice {
     device
 }
 
-/// Opens a log. Where that is refused the device comes back, and it is opened again.
+/// Opens a log, again if that is refused.
 fn opened<R: Abort>(rt: &R, alloc: Global, device: MemDevice) -> Opened<MemDevice> {
     let device = match recovery::open(alloc, device) {
         Ok(opened) => return opened,
@@ -42,7 +42,7 @@ fn opened<R: Abort>(rt: &R, alloc: Global, device: MemDevice) -> Opened<MemDevic
     opened
 }
 
-/// Lays a journal on a log. Where that is refused the log comes back, and it is laid again.
+/// Makes an unnamed journal on a log, again if that is refused.
 fn laid_again<R: Abort>(
     rt: &R,
     alloc: Global,
@@ -61,7 +61,7 @@ fn laid_again<R: Abort>(
     laid
 }
 
-/// The first byte of a block of home.
+/// The first byte of a home block.
 fn first_byte<R: Abort>(rt: &R, device: &mut MemDevice, block: u64) -> u8 {
     let mut bytes = [0; BLOCK_SIZE];
     let is_read = device.block_size() == BLOCK_SIZE
@@ -71,9 +71,8 @@ fn first_byte<R: Abort>(rt: &R, device: &mut MemDevice, block: u64) -> u8 {
     bytes[0]
 }
 
-/// Looks at what came of two clients. Where neither was refused anything each has two receipts. One that was refused Memory ended alone:
-/// the other has its two. Where the device failed both may have ended with Aborted. No credit is held but those of entries: so no handle
-/// is open.
+/// Judges the outcome of two clients. Without a refusal each has two receipts. A client that was refused Memory ends alone: the other has
+/// its two. If the device failed, both may end with Aborted. Only entries hold credits, so no handle is open.
 fn judge<R: Abort>(rt: &R, summary: &Summary) {
     match summary.why {
         None => assert_eq!(rt; (summary.handles, summary.receipts), (4, 4)),
@@ -85,7 +84,7 @@ fn judge<R: Abort>(rt: &R, summary: &Summary) {
     assert!(rt; summary.tally.word == summary.tally.entries);
 }
 
-/// What a stop then leaves: which transaction would be the next one, and the first bytes of blocks 3 and 4.
+/// What the crash image opens to: the number after its last transaction, and the first bytes of blocks 3 and 4.
 fn left<R: Abort>(rt: &R, alloc: Global, device: MemDevice) -> (u64, u8, u8) {
     let opened = opened(rt, alloc, device.crash(&[]));
     let ends_at = opened.report().ends_at;
@@ -94,8 +93,8 @@ fn left<R: Abort>(rt: &R, alloc: Global, device: MemDevice) -> (u64, u8, u8) {
     (ends_at, third, first_byte(rt, &mut device, 4))
 }
 
-/// Looks at what a stop then leaves. It opens to each transaction of which a client has a receipt, and the last writes of a client that
-/// was refused nothing are there: of the first one 2 in block 3, of the second one 3 in block 4 and 4 in block 3.
+/// Judges the crash image. It opens to each transaction of which a client has a receipt. The last writes of a client without a refusal are
+/// there: of the first one 2 in block 3; of the second 3 in block 4 and 4 in block 3.
 fn judge_left<R: Abort>(rt: &R, alloc: Global, summary: &Summary, device: MemDevice) {
     let (ends_at, third, fourth) = left(rt, alloc, device);
     let acknowledged = summary.acknowledged.unwrap_or(Tid(0));
@@ -108,7 +107,7 @@ fn judge_left<R: Abort>(rt: &R, alloc: Global, summary: &Summary, device: MemDev
     }
 }
 
-/// It prints how many clients were refused something, and what, once both were run.
+/// Prints how many clients were refused something, and what, if both were run.
 #[test]
 fn a_client_without_memory_ends_alone(rt: HostRuntime) -> Result<(), Fail> {
     let alloc = rt.alloc();

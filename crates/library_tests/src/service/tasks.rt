@@ -1,5 +1,5 @@
 //! Tasks over a device in memory: what a flush answers and leaves, alone and beside others; and handles that nobody waits for, which are
-//! committed before anybody is refused.
+//! committed before anything is refused.
 use super::LOG_BLOCKS;
 use crate::bytes::expect;
 use crate::logs::{formatted, laid_on};
@@ -28,22 +28,21 @@ const LOOKS: u64 = 2_000_000;
 /// What a task does.
 #[derive(Clone, Copy, Debug)]
 enum Job {
-    /// Flushes an empty journal, then after three handles, and then once more.
+    /// Flushes an empty journal, flushes after three handles, and flushes again.
     Flushes,
     /// Stops handles for half of the credits, and waits for none.
     Streams,
-    /// Flushes after every fifth handle, and looks whether all of its own are committed then.
+    /// Flushes after every fifth handle, and checks that its own are then committed.
     Beside(u64),
 }
 
-/// A task of the test.
 #[derive(Clone, Copy, Debug)]
 struct Worker {
     alloc: Global,
     job: Job,
 }
 
-/// What a task tells: numbers, and whether all was as it is to be.
+/// A task's answer: numbers, and whether all is as expected.
 type Told = Result<([Tid; 3], bool), JournalError>;
 
 /// Writes a block through a handle that nobody waits for.
@@ -61,8 +60,8 @@ fn write_one<J: JournalName, D: Device, R: Record, G: Gate, W: Wait>(
     Ok(ticket)
 }
 
-/// Flushes an empty journal, then after three handles, and then once more. It answers the three numbers, and whether the tickets of all
-/// three handles then had their receipts, without a wait.
+/// Flushes an empty journal, flushes after three handles, and flushes again. Returns the three numbers, and whether all three tickets then
+/// had their receipts without a wait.
 fn flush_thrice<J: JournalName, D: Device, R: Record, G: Gate, W: Wait>(
     rt: &W,
     alloc: Global,
@@ -89,7 +88,7 @@ fn flush_thrice<J: JournalName, D: Device, R: Record, G: Gate, W: Wait>(
     ))
 }
 
-/// Stops handles for half of the credits, and waits for none. It answers whether the first one's transaction was committed all the same.
+/// Stops handles for half of the credits, and waits for none. Returns whether the first one's transaction was committed all the same.
 fn stream<J: JournalName, D: Device, R: Record, G: Gate, W: Wait>(
     rt: &W,
     alloc: Global,
@@ -110,7 +109,7 @@ fn stream<J: JournalName, D: Device, R: Record, G: Gate, W: Wait>(
     Ok(([tid, tid, tid], committed))
 }
 
-/// Five handles, a flush, and a look with each ticket.
+/// Five handles, a flush, and a check of each ticket.
 fn five_and_flush<J: JournalName, D: Device, R: Record, G: Gate, W: Wait>(
     rt: &W,
     alloc: Global,
@@ -132,7 +131,7 @@ fn five_and_flush<J: JournalName, D: Device, R: Record, G: Gate, W: Wait>(
     Ok(all)
 }
 
-/// Does so again and again. It answers whether all of its own handles were committed after each flush.
+/// Does so again and again. Returns whether all of its own handles were committed after each flush.
 fn flush_beside<J: JournalName, D: Device, R: Record, G: Gate, W: Wait>(
     rt: &W,
     alloc: Global,
@@ -162,7 +161,7 @@ impl<D: Device, R: Record, G: Gate> Task<D, R, G> for Worker {
     }
 }
 
-/// Runs tasks over a new log in memory. It answers what they told, how many transactions are home, and whether the journal was closed.
+/// Runs tasks over a new log in memory. Returns their answers, how many transactions are committed, and whether the journal was closed.
 fn run<R: Threads + Wait + Sync>(
     rt: &R,
     alloc: Global,

@@ -6,7 +6,7 @@ use Rattle.journal_script.specs.declared.clients.ClientHandle.{ClientHandle}
 use Rattle.journal_script.proofs.Serving.{waits-served}
 use Rattle.journal_script.proofs.clients.awaited.Goals as goal
 
--- the handles can be served as before
+-- waiting changes no limit
 pub returns-in_ok-push-in-Some-clause-servable : goal.returns-in_ok-push-in-Some-clause-servable
 returns-in_ok-push-in-Some-clause-servable c =
     let served = IsServable c.args.limits.capacity c.args.limits.home_blocks in

@@ -3,7 +3,7 @@ use Rattle.std.specs.BTreeSet.{keys}
 use Rattle.journal_script.specs.Clients.{HasTouched}
 use Rattle.journal_script.proofs.clients.note_blocks.Given as goal
 
--- the blocks of those so far are noted, and the others stay
+-- the blocks of the touches so far are noted, and the others stay
 abbrev pub invariant-loop-touch : goal.invariant-loop-touch
 invariant-loop-touch l = record {
   keeps : (b : ℕ) → Contains (keys l.initial.blocks) b → Contains (keys l.blocks) b;

@@ -1,5 +1,5 @@
 use Rattle.library_tests.proofs.four.run.Given as goal
 
--- the name is that of the laid journal
+-- the name is the unnamed journal's
 abbrev pub ghosts-worked : goal.ghosts-worked
 ghosts-worked g a = record { name = a.laid.name }

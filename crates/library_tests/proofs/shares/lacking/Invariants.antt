@@ -1,5 +1,5 @@
 use Rattle.library_tests.proofs.shares.lacking.Given as goal
 
--- it stays as it is
+-- the share stays as it is
 abbrev pub ghosts-step : goal.ghosts-step
 ghosts-step g a = record { next = a.part.now }

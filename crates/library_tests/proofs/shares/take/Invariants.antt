@@ -1,6 +1,6 @@
 use Rattle.std.specs.Prelude.{Some}
 use Rattle.library_tests.proofs.shares.take.Given as goal
 
--- it has all of the number
+-- the share has all of the number
 abbrev pub ghosts-step : goal.ghosts-step
 ghosts-step g a = record { next = Some a.now.now }

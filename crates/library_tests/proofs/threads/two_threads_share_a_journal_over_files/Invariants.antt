@@ -1,5 +1,5 @@
 use Rattle.library_tests.proofs.threads.two_threads_share_a_journal_over_files.Given as goal
 
--- the name is that of the laid journal
+-- the name is the unnamed journal's
 abbrev pub ghosts-written : goal.ghosts-written
 ghosts-written g a = record { name = a.laid.name }

@@ -1,5 +1,5 @@
 use Rattle.library_tests.proofs.waiting.waited_over.Given as goal
 
--- the name is that of the laid journal
+-- the name is the unnamed journal's
 abbrev pub ghosts-waited : goal.ghosts-waited
 ghosts-waited g a = record { name = a.laid.name }

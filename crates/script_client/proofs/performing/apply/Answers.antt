@@ -5,11 +5,11 @@ use Rattle.script_client.specs.Told.{IsLedTo}
 use Rattle.script_client.proofs.Closing.{ended-weaker, led-weaker}
 use Rattle.script_client.proofs.performing.apply.Goals as goal
 
--- both are known where reads were honest
+-- `apply_known` gets the fact, and that reads are correct
 pub apply_known-requires : goal.apply_known-requires
 apply_known-requires g c = λ honest. (c.requires honest, honest)
 
--- one of them is what was known of the disk
+-- the fact of the disk comes back
 pub returns-clause-ended : goal.returns-clause-ended
 returns-clause-ended g c =
     IfOk-weaker c.apply_known.result _ _ (λ applied ended. λ honest.
@@ -22,6 +22,6 @@ returns-clause-stays g c = λ ending.
     led-weaker (λ shape disk. g.H.HomeFact.holds shape disk × g.D.Device.honest c.args.opened.device) g.H.HomeFact.holds c.args.operations.now (g.D.Device.state applied.left.device)
     applied.left.sealed.items applied.left.acknowledged (λ shape disk both. both.0) (led honest)) (c.apply_known.ensures.stays ending)
 
--- and the other that reads were honest
+-- and so does that reads were correct
 pub returns-clause-honest : goal.returns-clause-honest
 returns-clause-honest g c = IfOk-weaker c.apply_known.result _ _ (λ applied ended. λ honest. (ended honest).fact.1) c.apply_known.ensures.ended

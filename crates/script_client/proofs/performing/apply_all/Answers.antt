@@ -3,7 +3,7 @@ use Rattle.script_client.specs.Outcomes.{IsLastApplied}
 use Rattle.script_client.proofs.InOrder.{none-performed, one-more-performed, refused-applied, unwritten-applied}
 use Rattle.script_client.proofs.performing.apply_all.Goals as goal
 
--- none was performed yet
+-- no operation was performed yet
 pub loop-operation-init : goal.loop-operation-init
 loop-operation-init g c = record {
   operations = refl;
@@ -19,7 +19,7 @@ returns-in-Err-clause-applies g c =
     (record { client = c.perform-outcome.new.self.client; names = c.perform-outcome.new.self.slots }) (g.W.Write.contents c.args.out.now) (g.W.Write.contents c.loop-operation.out)
     (g.W.Write.contents c.write_line.new.out) c.loop-operation-test.true c.operation-item.is c.loop-operation.invariant.performs c.perform-outcome.ensures.done
 
--- it was refused, and is the last one
+-- it was refused, and ends the list
 pub returns-in-Some-clause-applies : goal.returns-in-Some-clause-applies
 returns-in-Some-clause-applies g c =
     refused-applied g.D.Device.state g.D.Device.honest (IsLastApplied c.args.after) c.args.operations.now c.loop-operation.operation-index c.operation-item.result c.perform-outcome.result

@@ -3,7 +3,7 @@ use Rattle.script_client.specs.Outcomes.{IsLastApplied}
 use Rattle.script_client.proofs.InOrder.{PerformsSoFar}
 use Rattle.script_client.proofs.performing.apply_all.Given as goal
 
--- the operations up to here were performed, their lines were written, and they are the same
+-- the operations up to here were performed, and their lines written
 abbrev pub invariant-loop-operation : goal.invariant-loop-operation
 invariant-loop-operation g l = record {
   operations : l.interpreter.client.operations ≡ l.fn.interpreter.client.operations;

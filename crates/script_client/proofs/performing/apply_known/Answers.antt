@@ -4,7 +4,7 @@ use Rattle.script_client.specs.Ended.{IsEnded}
 use Rattle.script_client.specs.Told.{IsLedTo}
 use Rattle.script_client.proofs.performing.apply_known.Goals as goal
 
--- of these operations
+-- the operations are the same
 pub returns-in-Ok-clause-ended : goal.returns-in-Ok-clause-ended
 returns-in-Ok-clause-ended g c = λ honest.
     let left = c.end_of.result.left in
@@ -17,7 +17,7 @@ returns-in-Ok-clause-stays g c = λ ending honest.
     subst (λ (operations : List Operation). IsLedTo g.H.HomeFact.holds operations (g.D.Device.state left.device) left.sealed.items left.acknowledged)
     (c.apply_all-applied.ensures.operations ∙ c.in-Ok.ensures.begun.client.operations_are) (c.end_of.ensures.stays ending honest)
 
--- from the journal that was just made
+-- from the new journal
 pub returns-in-Ok-clause-outcomes : goal.returns-in-Ok-clause-outcomes
 returns-in-Ok-clause-outcomes g c = record {
   start = record { client = c.in-Ok.interpreter.client; names = c.in-Ok.interpreter.slots };

@@ -2,7 +2,7 @@ use Rattle.std.proofs.lemmas.Result.{IfOk-weaker}
 use Rattle.script_client.specs.Performed.{Table}
 use Rattle.script_client.proofs.performing.perform.Goals as goal
 
--- from the journal that was just made
+-- from the new journal
 pub returns-in-Ok-clause-outcomes : goal.returns-in-Ok-clause-outcomes
 returns-in-Ok-clause-outcomes g c =
     let start : Table _ = record { client = c.in-Ok.interpreter.client; names = c.in-Ok.interpreter.slots } in

@@ -4,7 +4,7 @@ use Rattle.script_client.specs.Outcomes.{IsLast}
 use Rattle.script_client.proofs.InOrder.{all-performed, last-performed, none-performed, one-more-performed}
 use Rattle.script_client.proofs.performing.perform_all.Goals as goal
 
--- none was performed yet
+-- no operation was performed yet
 pub loop-operation-init : goal.loop-operation-init
 loop-operation-init g c = record {
   operations = refl;
@@ -24,7 +24,7 @@ loop-operation-preserved g c = record {
       (λ last. false≢true (c.if-is_last.ensures.1 last));
 }
 
--- or it ends there
+-- the list ends there
 pub returns-then-is_last-clause-all : goal.returns-then-is_last-clause-all
 returns-then-is_last-clause-all g c =
     last-performed g.D.Device.state g.D.Device.honest (IsLast c.args.after) c.args.operations.now c.loop-operation.operation-index c.operation-item.result c.perform-outcome.result

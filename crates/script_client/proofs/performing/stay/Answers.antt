@@ -1,7 +1,7 @@
 use Rattle.script_client.proofs.Closing.{to-ended}
 use Rattle.script_client.proofs.performing.stay.Goals as goal
 
--- the journal runs still
+-- the journal still runs
 pub returns-clause-ended : goal.returns-clause-ended
 returns-clause-ended g c = λ honest.
     let left = c.left_of.result in

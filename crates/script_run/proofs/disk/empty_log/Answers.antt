@@ -2,7 +2,7 @@ use Rattle.block_device.specs.Memory.{state_of}
 use Rattle.script_run.proofs.Disks.{opened-zero, run-anew, run-zero}
 use Rattle.script_run.proofs.disk.empty_log.Goals as goal
 
--- over the disk of the opening
+-- the device is over the disk of the opening
 pub returns-in-Ok-clause-anew : goal.returns-in-Ok-clause-anew
 returns-in-Ok-clause-anew c =
     run-anew c.args.measures.now c.args.stop c.args.fail c.in_ok-disk.disk c.in-Ok.opened.device c.in-Ok.opened.superblock c.in-Ok.opened.next c.with_stops.result

@@ -3,7 +3,7 @@ use Rattle.std.specs.BTreeSet.{keys}
 use Rattle.block_device.specs.State.{Stays}
 use Rattle.script_run.proofs.opening.write_home.Given as goal
 
--- the device stays, and the blocks so far are there, so that all are where those that are left are
+-- the device is unchanged, and all named blocks exist if the remaining ones do
 abbrev pub invariant-loop-block : goal.invariant-loop-block
 invariant-loop-block g l =
     let old = g.D.Device.state l.fn.device in

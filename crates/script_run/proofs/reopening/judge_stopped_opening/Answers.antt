@@ -25,7 +25,7 @@ returns-in-Whole g c =
     c.in_ok-first.ensures.device.stays (rw c.in-Whole.is at c.in_ok-opened.ensures.attempt) is.0 is.1)
     c.judge_opened.ensures
 
--- it was
+-- the opening was stopped
 pub returns-in_ok-writeln-in-Stopped : goal.returns-in_ok-writeln-in-Stopped
 returns-in_ok-writeln-in-Stopped g c =
     let recorded = c.args.recorded.now in

@@ -13,7 +13,7 @@ use Rattle.script_run.specs.Reopening.{IsAttempt, IsStoppedAttempt, IsWholeAttem
 use Rattle.script_run.proofs.Openings.{IsBroken-inside, IsDone-inside, IsMoment-inside, opened-image, stopped-attempt, whole-attempt}
 use Rattle.script_run.proofs.reopening.open_to.Goals as goal
 
--- it ended
+-- the opening ended
 pub returns-in-Ok-clause-attempt : goal.returns-in-Ok-clause-attempt
 returns-in-Ok-clause-attempt c =
     let image = c.args.image in
@@ -27,7 +27,7 @@ returns-in-Ok-clause-attempt c =
     (IsDone-inside image c.into_inner.result c.new.result c.in-Ok.opened.device start device (c.in-Ok.ensures.calls tt)))
     c.whole.ensures.whole
 
--- it failed
+-- the opening failed
 pub returns-in-Err-clause-attempt : goal.returns-in-Err-clause-attempt
 returns-in-Err-clause-attempt c =
     let image = c.args.image in
@@ -41,7 +41,7 @@ returns-in-Err-clause-attempt c =
     (IsBroken-inside image left.result c.new.result c.in-Err.device start left.ensures (c.in-Err.ensures.calls tt)))
     c.stopped.ensures.stopped
 
--- it ends before that write with what stands in the image, or memory or the device failed
+-- it failed before that write: a refusal of the image's contents, no memory, or a device failure
 pub returns-in-Ok-clause-err : goal.returns-in-Ok-clause-err
 returns-in-Ok-clause-err c =
     let image = c.args.image in

@@ -1,7 +1,7 @@
 use Rattle.std.proofs.lemmas.Result.{IfOk-weaker}
 use Rattle.script_run.proofs.running.run_operations.Goals as goal
 
--- on the empty log
+-- the run is on the empty log
 pub returns-clause-outcomes : goal.returns-clause-outcomes
 returns-clause-outcomes g c =
     IfOk-weaker c.run_operations_over.result _ _

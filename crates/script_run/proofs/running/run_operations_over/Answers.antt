@@ -3,7 +3,7 @@ use Rattle.script_run.specs.declared.verdict.Record.{Record}
 use Rattle.script_run.specs.Left.{HasRun}
 use Rattle.script_run.proofs.running.run_operations_over.Goals as goal
 
--- what was performed left the disk behind the device
+-- the operations left the disk inside the device
 pub returns-then-is_stopped_by-clause-outcomes : goal.returns-then-is_stopped_by-clause-outcomes
 returns-then-is_stopped_by-clause-outcomes g c =
     let writes = c.in_ok-performed.ensures.outcomes in

@@ -8,6 +8,6 @@ returns-clause-led g c = λ operations led.
     led-behind g.H.HomeFact.holds operations c.args.performed.sealed.items c.args.performed.acknowledged c.args.performed.device c.into_inner.result
     (c.into_inner.ensures ∙ ap inner_of c.into_inner-device.ensures) led
 
--- it is the disk behind the device
+-- it is the disk inside the device
 pub returns-clause-behind : goal.returns-clause-behind
 returns-clause-behind g c = c.into_inner.ensures ∙ ap inner_of c.into_inner-device.ensures

@@ -7,7 +7,7 @@ use Rattle.script_run.specs.LastEntries.{entry_in}
 use Rattle.script_run.specs.Verdict.{IsLeft}
 use Rattle.script_run.proofs.verdict.are_left.Given as goal
 
--- the blocks so far are as they were left, so that all are where those that are left are
+-- all named blocks are as they were left exactly if the remaining ones are
 abbrev pub invariant-loop-block : goal.invariant-loop-block
 invariant-loop-block g l =
     let old = g.D.Device.state l.fn.device in

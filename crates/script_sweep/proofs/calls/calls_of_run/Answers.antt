@@ -1,6 +1,6 @@
 use Rattle.script_sweep.proofs.calls.calls_of_run.Goals as goal
 
--- the calls that were counted behind the opening
+-- the calls are counted after the opening
 pub returns : goal.returns
 returns c =
     let done = c.in_ok-performed.ensures.outcomes in

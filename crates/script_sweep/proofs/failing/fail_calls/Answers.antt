@@ -7,7 +7,7 @@ use Rattle.script_sweep.proofs.failing.fail_calls.Goals as goal
 pub loop-before-init : goal.loop-before-init
 loop-before-init g c = record { swept = NoStep c.args.counts.now.not_right; calls = refl }
 
--- one more call
+-- one more call was swept
 pub loop-before-preserved : goal.loop-before-preserved
 loop-before-preserved g c = record {
   swept =

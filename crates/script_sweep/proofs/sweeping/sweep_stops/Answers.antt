@@ -7,7 +7,7 @@ use Rattle.script_sweep.proofs.sweeping.sweep_stops.Goals as goal
 pub loop-before-init : goal.loop-before-init
 loop-before-init g c = NoStep c.args.counts.now
 
--- one more stop
+-- one more stop was swept
 pub loop-before-preserved : goal.loop-before-preserved
 loop-before-preserved g c =
     OneMore c.loop-before.before c.args.counts.now c.loop-before.counts c.sweep_stop.new.counts c.loop-before.invariant

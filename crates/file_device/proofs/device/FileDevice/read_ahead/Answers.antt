@@ -15,7 +15,7 @@ use Rattle.file_device.proofs.KeptAhead.{failed-ahead-kept, read-ahead-kept, rea
 use Rattle.file_device.proofs.device.FileDevice.read_ahead.Goals as goal
 use Rattle.file_device.proofs.device.FileDevice.read_ahead.Goals.{in-Ok, in-Err}
 
--- how many there are where there was room for them
+-- the length after a resize that did not fail
 long-where-ok : {T E : Type 0} (r : Result T E) (n long old : ℕ) → is_ok r ≡ true → long ≡ (if is_ok r then n else old) → long ≡ n
 long-where-ok r n long old ok is = is ∙ ap (λ (b : Bool). if b then n else old) ok
 
@@ -31,7 +31,7 @@ read_blocks-requires-clause-small g c =
     (rw known there) c.min-count.ensures c.place_of-at.ensures (omega (arith, whole)) in
     omega (arith, fits, c.length-length.type_inv)
 
--- what was read ahead is kept, or nothing where that failed
+-- what was read ahead is kept, or nothing if that failed
 pub invariant_of-self-2 : goal.invariant_of-self-2
 invariant_of-self-2 g c =
     let d = c.self.inside in

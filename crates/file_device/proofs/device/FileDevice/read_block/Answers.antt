@@ -10,14 +10,14 @@ use Rattle.file_device.proofs.FileBlocks.{agreed_read}
 use Rattle.file_device.proofs.KeptAhead.{read-kept}
 use Rattle.file_device.proofs.device.FileDevice.read_block.Goals as goal
 
--- where each read gave what the disk had, this one did
+-- if all reads agreed, this one did
 pub returns-in-Ok-clause-bytes : goal.returns-in-Ok-clause-bytes
 returns-in-Ok-clause-bytes g c agrees =
     agreed_read g.C.Contents.contents (calls_of c.read.new.self) c.place_of-at.result c.args.n c.args.area c.read.new.into
     c.self.view_is c.self.invariant.0.some c.place_of-at.ensures (ap calls_of c.in-Ok.ensures.ok) agrees
     ∙ ap (λ (x : Cell). x.reads) (sym c.requires.apart)
 
--- the file was asked once
+-- the file was read once
 pub returns-in-Ok-clause-ok : goal.returns-in-Ok-clause-ok
 returns-in-Ok-clause-ok g c =
     let d = c.self.inside in
@@ -28,7 +28,7 @@ returns-in-Ok-clause-ok g c =
       after = ap View c.in-Ok.ensures.ok ∙ ap (λ (s : FileState). record s { calls = Read c.args.area c.place_of-at.result c.read.new.into ∷ s.calls }) c.self.view_is;
     }
 
--- and failed, at the block's place
+-- and that failed, at the block's place
 pub returns-in-Err-clause-err : goal.returns-in-Err-clause-err
 returns-in-Err-clause-err g c =
     let d = c.self.inside in
@@ -41,7 +41,7 @@ returns-in-Err-clause-err g c =
           ∙ ap (λ (s : FileState). record s { calls = ReadFailed c.args.area (c.args.n * s.block_size) ∷ s.calls; faults = one_more_fault s.faults }) c.self.view_is;
     }
 
--- what is kept stays so
+-- kept blocks stay right
 pub invariant_of-self : goal.invariant_of-self
 invariant_of-self g c =
     let d = c.self.inside in

@@ -16,7 +16,7 @@ returns-then-hand_out-2-clause-bytes g c agrees =
     c.if-hand_out-2.ensures.bytes refl agrees
     ∙ ap (λ (s : DeviceState). (s.disk Log c.args.n).reads) (read-leaves g.C.Contents.contents ahead ∙ ap (file_state g.C.Contents.contents) (c.hand_out.ensures.same ∙ c.note_asked-goes_on.ensures))
 
--- before the block itself is read, the log was asked for bytes alone
+-- before the block itself is read, the log was only read
 so_far : (g : Over) (c : goal.After-slice_known-3-1 g) → HasRead c.args.self.now c.if-goes_on.self
 so_far g c = elim c.if-goes_on.branch [
   | then-goes_on+else-hand_out-2 w ↦ read-as (same-read (c.hand_out.ensures.same ∙ c.note_asked-goes_on.ensures) (read-as w.read_ahead.ensures w.hand_out-then-goes_on.ensures.same)) w.self-is
@@ -29,7 +29,7 @@ so_far_read g c = elim c.if-goes_on.branch [
   | else-goes_on w ↦ same-read (c.hand_out.ensures.same ∙ c.note_asked-goes_on.ensures) (read-as (no-read c.hand_out.new.self) w.self-is)
 ]
 
--- the block is as its file has it still
+-- the block still reads as in its file
 pub read_block-requires-clause-apart : goal.read_block-requires-clause-apart
 read_block-requires-clause-apart g c =
     let asked : HasRead c.args.self.now c.if-goes_on.self = so_far_read g c in

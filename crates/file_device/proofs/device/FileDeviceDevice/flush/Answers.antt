@@ -8,13 +8,13 @@ use Rattle.file_device.specs.declared.calls.NotedFiles.{NotedFiles}
 use Rattle.file_device.proofs.FileBlocks.{any-err, fails_counted, fails_stays, handed_agreed}
 use Rattle.file_device.proofs.device.FileDeviceDevice.flush.Goals as goal
 
--- a device that fails to hand on what it gathered has the same disk
+-- a device that fails to write what it gathered has the same disk
 pub returns-in_err-hand_on-clause-err : goal.returns-in_err-hand_on-clause-err
 returns-in_err-hand_on-clause-err g c =
     any-err c.from_residual-in_err-hand_on.result
     (fails_stays g.C.Contents.contents c.args.self.now c.hand_on.new.self (fails_counted c.args.self.now c.check_usable.new.self c.hand_on.new.self c.in_ok-check_usable.ensures.usable c.in_err-hand_on.ensures.err))
 
--- a sync asks for nothing
+-- a sync keeps the premise
 pub returns-in-Ok-clause-honest : goal.returns-in-Ok-clause-honest
 returns-in-Ok-clause-honest g c agrees =
     let contents = g.C.Contents.contents in

@@ -1,4 +1,4 @@
--- `new` makes a value of no bytes, whose list of calls is empty. It is set by hand, since no memory holds the list.
+-- `new` makes a value of no bytes, whose list of calls is empty; set by hand, since no memory holds the list.
 use Rattle.std.proofs.Common.{[], ◌∷◌, refl}
 use seplogic.Ra.Ura.{Ura}
 use mir.Syntax.{Fn}

@@ -1,4 +1,4 @@
--- `then` makes a value of no bytes, whose list has the noted call before the others. It is set by hand, since no memory holds the list.
+-- `then` makes a value of no bytes, with the noted call first; set by hand, since no memory holds the list.
 use Rattle.std.proofs.Common.{List, [], ◌∷◌, ◌++◌, refl}
 use seplogic.Ra.Ura.{Ura}
 use mir.Syntax.{Fn}

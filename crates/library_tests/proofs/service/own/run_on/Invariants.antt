@@ -1,5 +1,5 @@
 use Rattle.library_tests.proofs.service.own.run_on.Given as goal
 
--- the name is that of the laid journal
+-- the name is the unnamed journal's
 abbrev pub ghosts-look : goal.ghosts-look
 ghosts-look g a = record { name = a.laid.name }

@@ -19,7 +19,7 @@ returns-then-has_open_handles-clause-ended g c = λ honest.
     (subst (λ (d : _). IsEnded g.H.HomeFact.holds c.self.inside.operations.now (g.D.Device.state d) parts.sealed.items c.self.inside.acknowledged) (sym device)
     (led-ended g.H.HomeFact.holds c.self.inside.operations.now old.journal (g.D.Device.state old.device) parts.sealed.items c.self.inside.acknowledged led c.into_parts.ensures.sealed))
 
--- the moves of the close follow on those before
+-- the moves of the close follow
 pub returns-in-Ok-clause-ended : goal.returns-in-Ok-clause-ended
 returns-in-Ok-clause-ended g c = λ honest.
     let old = c.self.inside.journal in
@@ -36,7 +36,7 @@ returns-in-Ok-clause-closed g c = λ honest.
     left-closed g.H.HomeFact.holds c.self.inside.operations.now old.journal (g.D.Device.state old.device) (g.D.Device.state parts.device) parts.sealed.items c.self.inside.acknowledged
     (c.self.invariant (c.in-Ok.ensures.honest honest)) (c.in-Ok.ensures.closed honest) c.in-Ok.ensures.shape
 
--- so do those of a close that is refused
+-- the moves of a refused close follow
 pub returns-in-Err-clause-ended : goal.returns-in-Err-clause-ended
 returns-in-Err-clause-ended g c = λ honest.
     let old = c.self.inside.journal in
@@ -56,17 +56,17 @@ returns-in-Err-clause-refused g c =
     subst (λ (v : ClientValue _). WhyUnclosed g.D.Device.state v.journal c.in-Err.parts.device c.in-Err.parts.sealed.items c.in-Err.parts.committed c.in-Err.e) c.self.view_is
     (IsRefused c.in-Err.ensures.err)
 
--- what was sealed is so still
+-- what was sealed stays sealed
 pub returns-then-has_open_handles-clause-sealed : goal.returns-then-has_open_handles-clause-sealed
 returns-then-has_open_handles-clause-sealed g c =
     subst (λ (v : ClientValue _). IsSealedInClose v.journal.journal.front c.into_parts.result.sealed.items) c.self.view_is (inl c.into_parts.ensures.sealed)
 
--- all is that a close seals
+-- all that a close seals is sealed
 pub returns-in-Ok-clause-sealed : goal.returns-in-Ok-clause-sealed
 returns-in-Ok-clause-sealed g c =
     subst (λ (v : ClientValue _). c.in-Ok.parts.sealed.items ≡ closing v.journal.journal.front) c.self.view_is c.in-Ok.ensures.ok.0
 
--- or some of it
+-- or some of it is
 pub returns-in-Err-clause-sealed : goal.returns-in-Err-clause-sealed
 returns-in-Err-clause-sealed g c =
     subst (λ (v : ClientValue _). IsSealedInClose v.journal.journal.front c.in-Err.parts.sealed.items) c.self.view_is

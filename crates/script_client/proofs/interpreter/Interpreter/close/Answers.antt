@@ -7,13 +7,13 @@ use Rattle.journal_script.specs.declared.script.Operation.{Operation}
 use Rattle.script_client.specs.Ended.{IsEnded}
 use Rattle.script_client.proofs.interpreter.Interpreter.close.Goals as goal
 
--- of the same operations
+-- the operations are the same
 pub returns-clause-ended : goal.returns-clause-ended
 returns-clause-ended g c = λ honest.
     let ended = c.close.result in
     subst (λ (operations : List Operation). IsEnded g.H.HomeFact.holds operations (g.D.Device.state ended.parts.device) ended.parts.sealed.items ended.acknowledged) c.into_stopped.ensures.operations (c.close.ensures.ended honest)
 
--- the handles that were stopped before had sealed nothing, and what runs is the same
+-- stopping handles sealed nothing, and the running transaction is the same
 pub returns-clause-sealed : goal.returns-clause-sealed
 returns-clause-sealed g c =
     let front = c.into_stopped.result.journal.journal.front in
@@ -24,7 +24,7 @@ returns-clause-sealed g c =
     (λ _. (c.close.result.parts.sealed.items ≡ front.sealed) ⊎ (c.close.result.parts.sealed.items ≡ with_running front.sealed t t.handles)))
     c.into_stopped.ensures.running c.close.ensures.sealed)
 
--- why it is not closed, behind their stops
+-- why it is not closed after the stops
 pub returns-clause-refused : goal.returns-clause-refused
 returns-clause-refused g c =
     IfErr-weaker c.close.result.closed _ _
@@ -36,6 +36,6 @@ returns-clause-refused g c =
     })
     c.close.ensures.refused
 
--- nor shown anything
+-- nothing was shown
 pub returns-clause-shown : goal.returns-clause-shown
 returns-clause-shown g c = c.close.ensures.shown ∙ c.into_stopped.ensures.left.shown_is

@@ -10,7 +10,7 @@ use Rattle.script_client.proofs.interpreter.Interpreter.commit.Goals as goal
 pub loop-init : goal.loop-init
 loop-init g c = record { turns = NoStep c.args.self.now.client.journal; rest = refl; slots = refl }
 
--- and one more, which had something to do
+-- one more turn had something to do
 pub loop-preserved : goal.loop-preserved
 loop-preserved g c = record {
   turns =
@@ -20,7 +20,7 @@ loop-preserved g c = record {
   slots = c.loop.invariant.slots;
 }
 
--- one that had nothing to do
+-- a turn had nothing to do
 pub returns-then-is_idle-clause-done : goal.returns-then-is_idle-clause-done
 returns-then-is_idle-clause-done g c = record {
   count = c.loop.counter;
@@ -29,7 +29,7 @@ returns-then-is_idle-clause-done g c = record {
   last = inl (ap Transaction c.mark.ensures, inl (c.in-Ok.turn, c.if-is_idle.ensures.0 refl, c.in-Ok.ensures.ok));
 }
 
--- one that was refused
+-- a turn was refused
 pub returns-in-Err-clause-done : goal.returns-in-Err-clause-done
 returns-in-Err-clause-done g c = record {
   count = c.loop.counter;
@@ -38,7 +38,7 @@ returns-in-Err-clause-done g c = record {
   last = inr (c.in-Err.e, refl, c.in-Err.ensures.err);
 }
 
--- as many as there may be
+-- no more turns are taken
 pub returns-clause-done : goal.returns-clause-done
 returns-clause-done g c =
     let most : c.loop.counter ≡ most_turns = omega (arith, c.loop-test.false, c.loop.auto.counter-end) in

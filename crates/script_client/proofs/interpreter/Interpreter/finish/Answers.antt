@@ -3,7 +3,7 @@ use Rattle.journal_script.specs.declared.script.Operation.{Operation}
 use Rattle.script_client.specs.Told.{IsLedTo}
 use Rattle.script_client.proofs.interpreter.Interpreter.finish.Goals as goal
 
--- of the same operations
+-- the operations are the same
 pub returns-clause-led : goal.returns-clause-led
 returns-clause-led g c = λ honest.
     let left = c.finish.result in

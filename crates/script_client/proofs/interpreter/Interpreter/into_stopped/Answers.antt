@@ -4,7 +4,7 @@ use Rattle.script_client.specs.Told.{ClientValue}
 use Rattle.script_client.proofs.InOrder.{ends-running, ends-sealed}
 use Rattle.script_client.proofs.interpreter.Interpreter.into_stopped.Goals as goal
 
--- none was stopped yet
+-- no handle was stopped yet
 pub loop-slot-init : goal.loop-slot-init
 loop-slot-init g c = record {
   operations = refl;
@@ -13,7 +13,7 @@ loop-slot-init g c = record {
   running = refl;
 }
 
--- the end of a handle changes none of them
+-- stopping a handle changes none of this
 pub loop-slot-preserved-in-Open : goal.loop-slot-preserved-in-Open
 loop-slot-preserved-in-Open g c =
     let left = c.loop-slot.invariant.left in

@@ -3,7 +3,7 @@ use Rattle.script_client.specs.Ended.{StopsHandles}
 use Rattle.script_client.specs.Shown.{IsLeftOf}
 use Rattle.script_client.proofs.interpreter.Interpreter.into_stopped.Given as goal
 
--- the operations are the same, and so are the device, what is sealed and what runs, and what was shown; handles were stopped
+-- handles were stopped; operations, device, sealed and running transactions, and what was shown are the same
 abbrev pub invariant-loop-slot : goal.invariant-loop-slot
 invariant-loop-slot g l = record {
   operations : l.client.operations ≡ l.fn.self.client.operations;
@@ -12,6 +12,6 @@ invariant-loop-slot g l = record {
   running : l.client.journal.journal.front.running ≡ l.fn.self.client.journal.journal.front.running;
 }
 
--- the slots that are left
+-- the slots that remain
 abbrev pub decreases-loop-slot : goal.decreases-loop-slot
 decreases-loop-slot g l = vec_len l.slots

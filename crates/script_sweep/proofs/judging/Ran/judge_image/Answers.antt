@@ -7,7 +7,7 @@ use Rattle.script_sweep.specs.Sweeping.{IsJudged}
 use Rattle.script_sweep.specs.Sweeping.IsJudged.{IsOpened, IsRefused}
 use Rattle.script_sweep.proofs.judging.Ran.judge_image.Goals as goal
 
--- what was opened is a copy of the image, and the verdict on it is counted
+-- a copy of the image was opened, and the verdict on it is counted
 pub returns-in_ok-judge_first-in-Ok : goal.returns-in_ok-judge_first-in-Ok
 returns-in_ok-judge_first-in-Ok g c =
     let new = c.judge_first.new.not_right in

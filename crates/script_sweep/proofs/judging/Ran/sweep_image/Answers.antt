@@ -5,7 +5,7 @@ use Rattle.script_sweep.specs.declared.judging.Found.{Found}
 use Rattle.script_sweep.specs.Sweeping.{IsJudged}
 use Rattle.script_sweep.proofs.judging.Ran.sweep_image.Goals as goal
 
--- it was opened, and so were the stops of its opening
+-- it was opened, and its openings were stopped
 pub returns-in-Some : goal.returns-in-Some
 returns-in-Some g c =
     on_ok_weaker c.sweep_openings.result

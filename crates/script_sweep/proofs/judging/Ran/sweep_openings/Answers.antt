@@ -7,7 +7,7 @@ use Rattle.script_sweep.proofs.judging.Ran.sweep_openings.Goals as goal
 pub loop-before-init : goal.loop-before-init
 loop-before-init g c = NoStep c.args.counts.now
 
--- one more stop of the opening
+-- one more stop of the opening was swept
 pub loop-before-preserved : goal.loop-before-preserved
 loop-before-preserved g c = OneMore c.loop-before.before c.args.counts.now c.loop-before.counts c.sweep_opening.new.counts c.loop-before.invariant c.in_ok-sweep_opening.ensures
 

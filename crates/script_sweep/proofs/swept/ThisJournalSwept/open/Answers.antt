@@ -9,7 +9,7 @@ returns-clause-opened c =
     IfOk-weaker c.open_image.result (IsOpenedImage c.args.image.shape (state_of c.args.image).disk)
     (λ opened. Unit {0} → IsOpenedImage c.args.image.shape (state_of c.args.image).disk opened) (λ opened is keeps. is) c.open_image.ensures.opened
 
--- nor is a refusal made up
+-- a refusal is one of the contract
 pub returns-clause-err : goal.returns-clause-err
 returns-clause-err c =
     IfErr-weaker c.open_image.result (IsUnopened c.args.image.shape (reading (state_of c.args.image).disk))

@@ -10,7 +10,7 @@ returns-clause-attempt c =
     IfOk-weaker c.open_to.result (IsAttempt (state_of c.args.image) c.args.k) (λ attempt. Unit {0} → IsAttempt (state_of c.args.image) c.args.k attempt)
     (λ attempt is keeps. is) c.open_to.ensures.attempt
 
--- nor is a refusal made up
+-- a refusal is one of the contract
 pub returns-clause-err : goal.returns-clause-err
 returns-clause-err c =
     IfErr-weaker c.open_to.result (IsUnopened c.args.image.shape (reading (state_of c.args.image).disk))
