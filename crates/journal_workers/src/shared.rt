@@ -33,7 +33,7 @@ pub enum Kick {
 pub struct Signals {
     /// Counts stops of handles, seals, commits and device failures.
     pub moved: EventCounter,
-    /// Counts finished checkpoint rounds.
+    /// Counts checkpoint rounds that are over.
     pub room: EventCounter,
     /// 1 while a requested round has not begun.
     round: AtomicU64,
