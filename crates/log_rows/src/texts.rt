@@ -1,6 +1,6 @@
-//! Rows of the texts in a log, by the plain program: chains and damage, newest copies, and copies that are covered.
+//! Rows of the texts in a log, by the plain program: chains and damage, newest copies, and covered copies.
 //!
-//! The blocks of the log stand one after the other from a place on, as `logs` spells them.
+//! The blocks of the log stand one after another from a place on, as `logs` spells them.
 ghost use Rattle.std.specs.Prelude.{◌<◌, ◌≤◌};
 
 use crate::logs::{Log, log_of};
@@ -15,7 +15,7 @@ use log_model::{Piece, Tag, Text};
 use std::alloc::Global;
 use std::fmt::Write;
 
-/// The blocks of a log, one after the other.
+/// The blocks of a log, in order.
 fn blocks_of(alloc: Global, log: &Log) -> Result<Items<Block>, RowError> {
     let mut blocks = Items::new(alloc);
     for (_, block) in log.blocks.as_slice() {
@@ -46,7 +46,7 @@ fn texts_of(alloc: Global, log: &Log, number: u64) -> Result<Items<Text>, RowErr
     )?)
 }
 
-/// The log that stands behind a line `number=N`, and that number.
+/// The log after a line `number=N`, and that number.
 fn numbered_log(alloc: Global, given: &str) -> Result<(u64, Log), RowError> {
     let (head, lines) = given.split_once('\n').unwrap_or((given, ""));
     let [number] = values::<1>(head, "number")?;
@@ -66,7 +66,7 @@ fn add_header(told: &mut String, name: &str, block: &Block) -> Result<(), RowErr
     Ok(())
 }
 
-/// Adds a copy behind its tag.
+/// Adds a copy after its tag.
 fn add_copy(alloc: Global, told: &mut String, tag: &Tag, copy: &Block) -> Result<(), RowError> {
     told.push(' ')?;
     told.push_str(tag_word(alloc, tag)?.as_str())?;
@@ -74,7 +74,6 @@ fn add_copy(alloc: Global, told: &mut String, tag: &Tag, copy: &Block) -> Result
     add_bytes(told, copy.bytes())
 }
 
-/// Adds the line of a piece.
 fn add_piece(alloc: Global, told: &mut String, piece: &Piece) -> Result<(), RowError> {
     match piece {
         Piece::Revokes(own, numbers) => {
@@ -93,7 +92,6 @@ fn add_piece(alloc: Global, told: &mut String, piece: &Piece) -> Result<(), RowE
     Ok(told.push('\n')?)
 }
 
-/// Adds the lines of a text.
 fn add_text(alloc: Global, told: &mut String, text: &Text) -> Result<(), RowError> {
     for piece in text.pieces.as_slice() {
         add_piece(alloc, told, piece)?;
@@ -102,7 +100,6 @@ fn add_text(alloc: Global, told: &mut String, text: &Text) -> Result<(), RowErro
     Ok(told.push('\n')?)
 }
 
-/// What is told of a malformed block.
 fn add_damage(told: &mut String, place: Option<usize>) -> Result<(), RowError> {
     match place {
         Some(place) => write!(told, "damage at {place}")?,
@@ -111,8 +108,8 @@ fn add_damage(told: &mut String, place: Option<usize>) -> Result<(), RowError> {
     Ok(())
 }
 
-/// Chains of a log. Given: a line `number=N`, and a log whose blocks are a lap from there on. Found: a line for each piece of its
-/// complete transactions and for each commit block, and the place in the lap, counted from 0, of a malformed block.
+/// Chains of a log. Given: a line `number=N`, and a log whose blocks are a lap from there on. Found: a line for each piece of its complete
+/// transactions and for each commit block, and the place in the lap, counted from 0, of a malformed block.
 pub fn chains(alloc: Global, given: &str) -> Result<String, RowError> {
     let (number, log) = numbered_log(alloc, given)?;
     let blocks = blocks_of(alloc, &log)?;
@@ -133,7 +130,7 @@ pub fn chains(alloc: Global, given: &str) -> Result<String, RowError> {
     Ok(told)
 }
 
-/// Adds the newest copy of a block, if there is one.
+/// Adds the newest copy of a block, if any.
 fn add_newest(
     alloc: Global,
     told: &mut String,
@@ -148,8 +145,8 @@ fn add_newest(
     Ok(())
 }
 
-/// Newest copies. Given: a log, as `chains` takes it. Found: each home block of which its texts have a live copy, with the bytes of
-/// the newest, or `none`.
+/// Newest copies. Given: a log, as for `chains`. Found: each home block of which its texts have a live copy, with the newest one's bytes;
+/// or `none`.
 pub fn newest_copies(alloc: Global, given: &str) -> Result<String, RowError> {
     let (number, log) = numbered_log(alloc, given)?;
     let texts = texts_of(alloc, &log, number)?;
@@ -179,8 +176,8 @@ fn add_covered(
     Ok(told.push('\n')?)
 }
 
-/// Copies that are covered. Given: a log, as `chains` takes it. Found: the home blocks that a revoke covers in the texts from
-/// each on, and behind the last.
+/// Covered copies. Given: a log, as for `chains`. Found: the home blocks that a revoke covers in the texts from each on, and after the
+/// last.
 pub fn covered_copies(alloc: Global, given: &str) -> Result<String, RowError> {
     let (number, log) = numbered_log(alloc, given)?;
     let texts = texts_of(alloc, &log, number)?;
