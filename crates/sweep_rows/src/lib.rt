@@ -1,6 +1,6 @@
-//! What is done with rows of sweeps, of wrong journals too; of runs of which calls fail; and of verdicts on records made by hand.
+//! Does what rows of sweeps say, also of wrong journals; of runs of which calls fail; and of verdicts on records made by hand.
 //!
-//! A row gives a text and says what text is wanted. Each kind of rows is a function here.
+//! A row gives a text, and the text that is wanted. Each kind of rows is a function here.
 #![tactic(auto)]
 
 pub mod failures;
