@@ -41,7 +41,6 @@ pub fn headers(alloc: Global, given: &str) -> Result<String, RowError> {
     }
 }
 
-/// The tag of a home block with these flags.
 fn tag(block: u64, flags: u32) -> Tag {
     Tag {
         block: BlockNo(block),
@@ -61,7 +60,6 @@ fn push_tags(tags: &mut Items<Tag>, word: &str) -> Result<(), RowError> {
     Ok(())
 }
 
-/// The tags of these words, as `spelling` has them.
 fn tags_of(alloc: Global, words: &str) -> Result<Items<Tag>, RowError> {
     let mut tags = Items::new(alloc);
     for word in words.split_whitespace() {
@@ -78,7 +76,6 @@ fn push_numbers(numbers: &mut Items<BlockNo>, word: &str) -> Result<(), RowError
     Ok(())
 }
 
-/// The numbers of these words, as `spelling` has them.
 fn numbers_of(alloc: Global, words: &str) -> Result<Items<BlockNo>, RowError> {
     let mut numbers = Items::new(alloc);
     for word in words.split_whitespace() {
@@ -87,7 +84,7 @@ fn numbers_of(alloc: Global, words: &str) -> Result<Items<BlockNo>, RowError> {
     Ok(numbers)
 }
 
-/// Writes a descriptor, if the tags fit one.
+/// False if the tags do not fit.
 fn write_tags(layout: LogLayout, block: &mut [u8], sequence: u32, tags: &[Tag]) -> bool
     requires taken { IsLayout layout }
     requires size { length block.old ≡ layout.block_size }
@@ -104,7 +101,7 @@ fn write_tags(layout: LogLayout, block: &mut [u8], sequence: u32, tags: &[Tag]) 
     false
 }
 
-/// Writes a revoke block, if the numbers fit one.
+/// False if the numbers do not fit.
 fn write_numbers(layout: LogLayout, block: &mut [u8], sequence: u32, numbers: &[BlockNo]) -> bool
     requires taken { IsLayout layout }
     requires size { length block.old ≡ layout.block_size }
@@ -119,8 +116,7 @@ fn write_numbers(layout: LogLayout, block: &mut [u8], sequence: u32, numbers: &[
     false
 }
 
-/// Writes the block of some words: `descriptor=2 9/0008` is a descriptor of sequence 2 with a tag, `revoke=3 7 9` a revoke block of two
-/// home blocks, and `commit=3` a commit block. False if the tags or numbers do not fit.
+/// Writes a block like `descriptor=2 9/0008`, `revoke=3 7 9` or `commit=3`. False if its tags or numbers do not fit.
 fn write_words(
     alloc: Global,
     layout: LogLayout,
@@ -162,7 +158,7 @@ pub fn written_blocks(alloc: Global, given: &str) -> Result<String, RowError> {
     }
 }
 
-/// Reads a descriptor, if the block has the header of one.
+/// `None` if the block is no descriptor.
 fn read_tags(
     layout: LogLayout,
     block: &[u8],
@@ -180,7 +176,7 @@ fn read_tags(
     Some(Descriptor::read(layout, block, Some(home_blocks), tags))
 }
 
-/// Reads a revoke block, if the block has the header of one.
+/// `None` if the block is no revoke block.
 fn read_numbers(
     layout: LogLayout,
     block: &[u8],
@@ -198,7 +194,6 @@ fn read_numbers(
     Some(RevokeBlock::read(layout, block, Some(home_blocks), numbers))
 }
 
-/// The tags that are read from a block, if it has the header of a descriptor.
 fn told_tags(
     alloc: Global,
     layout: LogLayout,
@@ -216,7 +211,6 @@ fn told_tags(
     }
 }
 
-/// The numbers that are read from a block, if it has the header of a revoke block.
 fn told_numbers(
     alloc: Global,
     layout: LogLayout,
@@ -234,7 +228,6 @@ fn told_numbers(
     }
 }
 
-/// What is read from a block, for a home of this many blocks.
 fn told(
     alloc: Global,
     layout: LogLayout,
@@ -267,7 +260,6 @@ pub fn read_blocks(alloc: Global, given: &str) -> Result<String, RowError> {
     told(alloc, layout_in(1024, wide), &block, home_blocks)
 }
 
-/// The text for a block that is read as these words say.
 fn words_text(alloc: Global, words: &str) -> Result<String, RowError> {
     let (head, behind) = cut(words, " ")?;
     if head.starts_with("descriptor") {
@@ -277,7 +269,7 @@ fn words_text(alloc: Global, words: &str) -> Result<String, RowError> {
     }
 }
 
-/// The result for a full block: its bytes before the zeros at its end, and what is read from it.
+/// A full block's bytes before the zeros at its end, and what is read from it.
 fn told_full(
     alloc: Global,
     layout: LogLayout,

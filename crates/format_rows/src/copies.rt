@@ -9,14 +9,13 @@ use crate::words::cut;
 use log_format::{escape, unescape};
 use std::alloc::Global;
 
-/// Escapes a home block's bytes for the log, and says whether that changed them.
+/// Escapes a copy, and says whether that changed it.
 fn told_escape(copy: &mut [u8]) -> &'static str
     requires { length copy.old ≡ 1024 }
 {
     if escape(copy) { "escaped: " } else { "left: " }
 }
 
-/// Does with a copy what a word says.
 fn does(copy: &mut [u8], name: &str) -> Result<&'static str, RowError>
     requires { length copy.old ≡ 1024 }
 {

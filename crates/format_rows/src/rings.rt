@@ -23,7 +23,7 @@ fn ring_of(first: u64, maxlen: u64) -> Result<Ring, RowError> {
     Ok(Ring::new(first, maxlen))
 }
 
-/// Releases blocks, which must be taken. Returns how many are then free.
+/// Releases blocks, which must be taken.
 fn release(ring: &mut Ring, count: u64) -> Result<u64, RowError> {
     if ring.blocks() - ring.free() < count {
         return Err(RowError::Unread);
@@ -39,7 +39,6 @@ fn take(ring: &mut Ring, count: u64) -> Result<Result<u64, JournalError>, RowErr
     Ok(ring.take(count))
 }
 
-/// The answer to a call without an operand.
 fn asked(ring: &Ring, name: &str) -> Result<u64, RowError> {
     match name {
         "blocks" => Ok(ring.blocks()),
@@ -50,7 +49,6 @@ fn asked(ring: &Ring, name: &str) -> Result<u64, RowError> {
     }
 }
 
-/// The answer to a call with operands.
 fn called(
     ring: &mut Ring,
     name: &str,
@@ -68,7 +66,6 @@ fn called(
     }
 }
 
-/// The answer to the call of a line.
 fn answer_to(ring: &mut Ring, call: &str) -> Result<Result<u64, JournalError>, RowError> {
     match call.split_once(' ') {
         Some((name, operands)) => called(ring, name, operands),
@@ -98,7 +95,6 @@ pub fn ring_calls(alloc: Global, given: &str) -> Result<String, RowError> {
     text(alloc, told.as_str().trim_end())
 }
 
-/// The layout of a transaction in blocks of this size, for block numbers of 64 bits or 32.
 fn layout_of(size: u64, wide: bool, copies: u64, revokes: u64) -> Result<Layout, RowError> {
     let known = size == 1024 || size == 2048 || size == 4096;
     if !known || copies > 2000 || revokes > 2000 {
@@ -107,7 +103,7 @@ fn layout_of(size: u64, wide: bool, copies: u64, revokes: u64) -> Result<Layout,
     Ok(Layout::new(layout_in(size as usize, wide), copies, revokes))
 }
 
-/// How many blocks a transaction needs, by the ring and by the plain program.
+/// By the ring, and by the plain program.
 fn need(size: u64, wide: bool, copies: u64, revokes: u64) -> Result<(u64, usize), RowError> {
     let known = size == 1024 || size == 2048 || size == 4096;
     if !known || copies > 2000 || revokes > 2000 {
@@ -123,7 +119,7 @@ fn need(size: u64, wide: bool, copies: u64, revokes: u64) -> Result<(u64, usize)
     Ok((Ring::need(layout, copies, revokes), plain))
 }
 
-/// The most copies, by the layout and by the plain program.
+/// By the layout, and by the plain program.
 fn capacity(size: u64, wide: bool, ring: u64) -> Result<(u64, usize), RowError> {
     let known = size == 1024 || size == 2048 || size == 4096;
     if !known || ring < 16 || ring > 1_048_576 {
@@ -152,7 +148,6 @@ pub fn capacities(alloc: Global, given: &str) -> Result<String, RowError> {
     Ok(format!(in alloc; "{capacity}, plain {plain}")?)
 }
 
-/// Adds a part of a transaction, after its place.
 fn add_part(told: &mut String, place: u64, part: Part) -> Result<(), RowError> {
     match part {
         Part::Revokes { first, numbers } => {

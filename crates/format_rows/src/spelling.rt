@@ -149,7 +149,7 @@ fn push_numbers(bytes: &mut Vec<u8>, measures: &Measures, word: &str) -> Result<
     Ok(())
 }
 
-/// Adds the tags of a series of home blocks. The text after the slash follows the lower half of each number.
+/// Adds tags; the text after the slash follows the lower half of each number.
 fn push_tags(
     bytes: &mut Vec<u8>,
     measures: &Measures,
@@ -186,7 +186,6 @@ fn push_super(bytes: &mut Vec<u8>, measures: &Measures) -> Result<(), RowError> 
     push_number(bytes, 1)
 }
 
-/// Adds what a word with a name says, or puts it at its place.
 fn push_named(bytes: &mut Vec<u8>, name: &str, value: &str) -> Result<(), RowError> {
     match name {
         "descriptor" => push_header(bytes, 1, value),
@@ -201,7 +200,6 @@ fn push_named(bytes: &mut Vec<u8>, name: &str, value: &str) -> Result<(), RowErr
     }
 }
 
-/// Puts a field, or bytes at a place.
 fn put_named(bytes: &mut Vec<u8>, name: &str, value: &str) -> Result<(), RowError> {
     if let Some(place) = name.strip_prefix('@') {
         let more = hex_bytes(*bytes.allocator(), value)?;
@@ -211,7 +209,6 @@ fn put_named(bytes: &mut Vec<u8>, name: &str, value: &str) -> Result<(), RowErro
     put(bytes, place, &number32(value)?.to_be_bytes())
 }
 
-/// Where a field of the superblock begins.
 fn place_of(field: &str) -> Result<usize, RowError> {
     Ok(match field {
         "s_blocksize" => 0x0c,

@@ -25,7 +25,6 @@ pub fn bytes_before_zeros(block: &[u8]) -> usize {
     }
 }
 
-/// Adds a byte at this place of a block in hex digits; each fourth one follows a blank.
 fn add_byte(told: &mut String, place: usize, byte: u8) -> Result<(), RowError> {
     if place > 0 && place % 4 == 0 {
         told.push(' ')?;
@@ -34,7 +33,6 @@ fn add_byte(told: &mut String, place: usize, byte: u8) -> Result<(), RowError> {
     Ok(())
 }
 
-/// Adds the byte that fills the rest of a block.
 fn add_rest(told: &mut String, rest: u8) -> Result<(), RowError> {
     if !told.is_empty() {
         told.push(' ')?;
@@ -66,7 +64,6 @@ pub fn add_bytes(told: &mut String, block: &[u8]) -> Result<(), RowError> {
     Ok(())
 }
 
-/// The flags of a tag as their number on the disk.
 fn flags_of(tag: &Tag) -> u8 {
     let escaped = u8::from(tag.escaped);
     let same_uuid = if tag.same_uuid { 2 } else { 0 };
@@ -84,7 +81,6 @@ fn number_word(alloc: Global, number: &BlockNo) -> Result<String, RowError> {
     Ok(format!(in alloc; "{}", number.0)?)
 }
 
-/// Adds a word, after its count if it is more than one.
 fn add_run(told: &mut String, times: u64, word: &str) -> Result<(), RowError> {
     if !told.is_empty() {
         told.push(' ')?;
@@ -96,7 +92,7 @@ fn add_run(told: &mut String, times: u64, word: &str) -> Result<(), RowError> {
     Ok(())
 }
 
-/// The words of a list, like `3*9/0002 9/0008`: equal neighbours are counted. `nothing` for an empty list.
+/// Words like `3*9/0002 9/0008`: equal neighbours are counted. `nothing` for an empty list.
 fn runs<T: PartialEq, F: Fn(Global, &T) -> Result<String, RowError>>(
     alloc: Global,
     items: &[T],
