@@ -21,7 +21,7 @@ fn add_fault(told: &mut String, fault: &Fault) -> Result<(), RowError> {
     Ok(())
 }
 
-/// The text that a dump wrote, followed by why it ended early, if it did.
+/// The dump's text, followed by why it ended early, if it did.
 fn dump_text(alloc: Global, written: &[u8], answer: Result<(), Fault>) -> Result<String, RowError> {
     let written = from_utf8(written).ok().ok_or(RowError::Unread)?;
     let mut told = text(alloc, written)?;
@@ -59,7 +59,7 @@ pub fn short_dumps(alloc: Global, given: &str) -> Result<String, RowError> {
     text(alloc, told.as_str().trim_end())
 }
 
-/// A device that counts how often each of the first 40 blocks of its log is read, and fails from read `fails_at` on; with 0 it never fails.
+/// A device that counts the reads of its log's first 40 blocks, and fails from read `fails_at` on; with 0 it never fails.
 #[derive(Drop)]
 struct CountedReads<D> {
     device: D,
@@ -70,7 +70,6 @@ struct CountedReads<D> {
 }
 
 impl<D: Device> CountedReads<D> {
-    /// Counts a call, and fails if it is time to.
     fn running(&mut self) -> Result<(), DeviceFault>
         ensures ok { OnOk result ((self.new.device ≡ self.old.device) × (self.new.faults ≡ self.old.faults)) }
         ensures err { OnErr result ((self.new.device ≡ self.old.device) × (self.new.faults ≡ one_more_fault self.old.faults)) }
@@ -118,7 +117,6 @@ impl<D: Device> Device for CountedReads<D> {
     }
 }
 
-/// Adds how often each block was read, if at all.
 fn add_counts(told: &mut String, counts: &[u8; 40]) -> Result<(), RowError> {
     told.push_str("reads")?;
     for (block, count) in counts.iter().enumerate() {

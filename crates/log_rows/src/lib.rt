@@ -1,7 +1,5 @@
-//! Does what rows of logs say: texts and transactions of the plain program, dumps, and devices in memory.
-//!
-//! A row gives a text, and the text that is wanted. Each kind of rows is a function here, as in `format_rows`: it does what the row gives
-//! by the public functions of the crates below, and returns the text that it found. `logs` says how rows spell logs.
+//! Rows of logs: texts and transactions of the plain program, dumps, and devices in memory. A row gives a text, and the text that is
+//! wanted; each kind of rows is a function. `logs` says how rows spell logs.
 #![tactic(auto)]
 
 mod dumping;

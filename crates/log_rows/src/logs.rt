@@ -44,7 +44,6 @@ pub struct Log {
     pub blocks: Items<(u64, Block)>,
 }
 
-/// The measures that the words after `device` give.
 fn shape_of(words: &str) -> Result<Shape, RowError> {
     let mut shape = USUAL;
     for word in words.split_whitespace() {
@@ -68,7 +67,7 @@ fn set_measure(shape: &mut Shape, word: &str) -> Result<(), RowError> {
     Ok(())
 }
 
-/// The measures of a text, which its first line may give, and the other lines.
+/// The measures that the first line may give, and the other lines.
 fn split_shape(given: &str) -> Result<(Shape, &str), RowError> {
     match given.strip_prefix("device ") {
         Some(behind) => {

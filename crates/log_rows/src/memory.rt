@@ -45,7 +45,6 @@ fn area_of(name: &str) -> Result<Area, RowError> {
     }
 }
 
-/// Adds why a call failed, if it did.
 fn add_answer(told: &mut String, answer: Result<(), DeviceFault>) -> Result<(), RowError> {
     if let Err(fault) = answer {
         write!(told, "{fault} | ")?;
@@ -65,7 +64,6 @@ fn fill<D: Device>(
     add_answer(told, device.write(area, block, &[byte; SIZE]))
 }
 
-/// Fills the blocks that the words name, with their byte.
 fn fill_series<D: Device>(told: &mut String, device: &mut D, words: &str) -> Result<(), RowError> {
     let (area, behind) = cut(words, " ")?;
     let (blocks, byte) = cut(behind, " ")?;
@@ -78,7 +76,6 @@ fn fill_series<D: Device>(told: &mut String, device: &mut D, words: &str) -> Res
     Ok(())
 }
 
-/// Reads the block that the words name.
 fn read<D: Device>(told: &mut String, device: &mut D, words: &str) -> Result<(), RowError> {
     let (area, block) = cut(words, " ")?;
     let area = area_of(area)?;
@@ -94,7 +91,6 @@ fn read<D: Device>(told: &mut String, device: &mut D, words: &str) -> Result<(),
     Ok(told.push_str(" | ")?)
 }
 
-/// Makes a call that every device has.
 fn call<D: Device>(told: &mut String, device: &mut D, spelled: &str) -> Result<(), RowError> {
     let (name, words) = cut(spelled, " ")?;
     match name {
@@ -113,7 +109,6 @@ fn numbers_of(alloc: Global, words: &str) -> Result<Items<u64>, RowError> {
     Ok(numbers)
 }
 
-/// Makes a call of a device in memory.
 fn call_memory(
     alloc: Global,
     told: &mut String,
@@ -135,7 +130,6 @@ fn call_memory(
     Ok(Rig::Memory(device))
 }
 
-/// Makes a call of a device that stops.
 fn call_stopping(
     told: &mut String,
     mut device: StopAt<MemDevice>,
@@ -149,7 +143,6 @@ fn call_stopping(
     Ok(Rig::Stopping(device))
 }
 
-/// Makes a call of a device that fails once.
 fn call_failing(
     told: &mut String,
     mut device: FailOnce<MemDevice>,
@@ -163,7 +156,6 @@ fn call_failing(
     Ok(Rig::Failing(device))
 }
 
-/// The answers, without the last bar.
 fn answers_text(alloc: Global, answers: &str) -> Result<String, RowError> {
     text(alloc, answers.strip_suffix(" | ").unwrap_or(answers))
 }

@@ -15,7 +15,6 @@ use log_model::{Piece, Tag, Text};
 use std::alloc::Global;
 use std::fmt::Write;
 
-/// The blocks of a log, in order.
 fn blocks_of(alloc: Global, log: &Log) -> Result<Items<Block>, RowError> {
     let mut blocks = Items::new(alloc);
     for (_, block) in log.blocks.as_slice() {
@@ -24,7 +23,6 @@ fn blocks_of(alloc: Global, log: &Log) -> Result<Items<Block>, RowError> {
     Ok(blocks)
 }
 
-/// How many bytes a block number of a log has.
 fn number_bytes(log: &Log) -> usize
     ensures some { 0 < result }
     ensures few { result ≤ 8 }
@@ -32,7 +30,6 @@ fn number_bytes(log: &Log) -> usize
     if log.shape.measures.wide { 8 } else { 4 }
 }
 
-/// The texts of a log from this number on.
 fn texts_of(alloc: Global, log: &Log, number: u64) -> Result<Items<Text>, RowError> {
     let blocks = blocks_of(alloc, log)?;
     let size = log.shape.measures.block_size;
@@ -46,14 +43,13 @@ fn texts_of(alloc: Global, log: &Log, number: u64) -> Result<Items<Text>, RowErr
     )?)
 }
 
-/// The log after a line `number=N`, and that number.
+/// Splits off a line `number=N`.
 fn numbered_log(alloc: Global, given: &str) -> Result<(u64, Log), RowError> {
     let (head, lines) = given.split_once('\n').unwrap_or((given, ""));
     let [number] = values::<1>(head, "number")?;
     Ok((number, log_of(alloc, lines)?))
 }
 
-/// Adds the name of a log block, and the sequence in its header.
 fn add_header(told: &mut String, name: &str, block: &Block) -> Result<(), RowError> {
     let bytes = block.bytes();
     if bytes.len() < 12 {
@@ -66,7 +62,6 @@ fn add_header(told: &mut String, name: &str, block: &Block) -> Result<(), RowErr
     Ok(())
 }
 
-/// Adds a copy after its tag.
 fn add_copy(alloc: Global, told: &mut String, tag: &Tag, copy: &Block) -> Result<(), RowError> {
     told.push(' ')?;
     told.push_str(tag_word(alloc, tag)?.as_str())?;
@@ -130,7 +125,6 @@ pub fn chains(alloc: Global, given: &str) -> Result<String, RowError> {
     Ok(told)
 }
 
-/// Adds the newest copy of a block, if any.
 fn add_newest(
     alloc: Global,
     told: &mut String,
@@ -160,7 +154,6 @@ pub fn newest_copies(alloc: Global, given: &str) -> Result<String, RowError> {
     text(alloc, told.as_str().trim_end())
 }
 
-/// Adds the home blocks that are covered in the texts from one on.
 fn add_covered(
     told: &mut String,
     texts: &[Text],

@@ -14,7 +14,6 @@ fn block_of(alloc: Global, digits: &str) -> Result<Block, RowError> {
     Ok(Block::new(hex_bytes(alloc, digits)?)?)
 }
 
-/// The operation of a step, as it is spelled after `=`.
 fn op_of(alloc: Global, does: &str) -> Result<Op, RowError> {
     if does == "-" {
         return Ok(Op::Revoke);
@@ -25,7 +24,6 @@ fn op_of(alloc: Global, does: &str) -> Result<Op, RowError> {
     }
 }
 
-/// The step of a word, made by one handle.
 fn step_of(alloc: Global, word: &str) -> Result<Step, RowError> {
     let (block, does) = cut(word, "=")?;
     Ok(Step {
@@ -65,7 +63,6 @@ pub fn transaction_entries(alloc: Global, given: &str) -> Result<String, RowErro
     Ok(told)
 }
 
-/// The transaction of a number, a colon and its steps.
 fn sealed_of(alloc: Global, spelled: &str) -> Result<Sealed, RowError> {
     let (tid, steps) = cut(spelled, ":")?;
     Ok(Sealed {
@@ -75,7 +72,6 @@ fn sealed_of(alloc: Global, spelled: &str) -> Result<Sealed, RowError> {
     })
 }
 
-/// The transactions of a text, which bars separate.
 fn history_of(alloc: Global, spelled: &str) -> Result<Items<Sealed>, RowError> {
     let mut history = Items::new(alloc);
     for transaction in spelled.split('|') {
