@@ -19,7 +19,7 @@ pub fn failures<J: Runner>(alloc: Global, journal: &J, given: &str) -> Result<St
     Ok(endings_text(alloc, &endings, "calls")?)
 }
 
-/// Adds how runs whose call `call` fails end, for each choice of the last writes.
+/// Adds how runs with a failure of this call end, for each choice of the last writes.
 fn add_failure<J: Runner>(
     alloc: Global,
     journal: &J,
@@ -35,7 +35,6 @@ fn add_failure<J: Runner>(
     Ok(())
 }
 
-/// How many writes such a run makes.
 fn writes_of<J: Runner>(
     alloc: Global,
     journal: &J,
@@ -48,7 +47,6 @@ fn writes_of<J: Runner>(
     }
 }
 
-/// Adds how a run whose call `call` fails and that keeps these writes ends.
 fn add_run<J: Runner>(
     alloc: Global,
     journal: &J,
@@ -75,7 +73,7 @@ fn add_run<J: Runner>(
     }
 }
 
-/// Adds how a run that printed these lines ends. The call failed if an operation was refused for that.
+/// Adds an ending from these lines; the call failed if an operation was refused for that.
 fn add_lines(
     alloc: Global,
     lines: &str,

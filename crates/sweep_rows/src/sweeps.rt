@@ -67,7 +67,6 @@ pub fn ignored_failures(alloc: Global, given: &str) -> Result<String, RowError> 
     Ok(first_of_each_call(alloc, written(&err)?)?)
 }
 
-/// The first line for each call, of the lines on what is not right.
 fn first_of_each_call(alloc: Global, named: &str) -> Result<String, AllocError> {
     let mut firsts = String::new(alloc);
     let mut last = None;
@@ -81,7 +80,6 @@ fn first_of_each_call(alloc: Global, named: &str) -> Result<String, AllocError> 
     Ok(firsts)
 }
 
-/// The number of the call in a line on what is not right.
 fn call_named(line: &str) -> Option<u64> {
     let (options, _) = line.strip_prefix("not right: --fail ")?.split_once(',')?;
     options.split(' ').next()?.parse().ok()
@@ -112,7 +110,6 @@ fn wrong_journal(name: &str) -> Result<WrongJournal, RowError> {
     })
 }
 
-/// The journal that heeds failed calls, or ignores them.
 fn failing_journal(word: &str) -> Result<WrongJournal, RowError> {
     let ignores_failures = match word {
         "heeded" => false,

@@ -17,7 +17,6 @@ const SIZE: usize = 16;
 /// Blocks of home.
 const HOME: u64 = 8;
 
-/// A record and a device.
 #[derive(Drop)]
 struct Left {
     record: Record,
@@ -40,7 +39,6 @@ pub fn verdict(alloc: Global, given: &str) -> Result<String, RowError> {
     }
 }
 
-/// An empty record, and a device of zeros.
 fn nothing_left(alloc: Global) -> Left {
     Left {
         record: Record {
@@ -73,7 +71,7 @@ fn seal(record: &mut Record, transaction: Sealed) -> Result<(), AllocError> {
     Ok(record.sealed.push(transaction)?)
 }
 
-/// The transaction of this number, with the one write of a text like `3 07`.
+/// The transaction with the one write of a text like `3 07`.
 fn transaction(alloc: Global, tid: u32, written: &str) -> Result<Sealed, RowError> {
     let (block, bytes) = block_in(alloc, written)?;
     let mut steps = Items::new(alloc);
@@ -89,7 +87,6 @@ fn transaction(alloc: Global, tid: u32, written: &str) -> Result<Sealed, RowErro
     })
 }
 
-/// Names the block of a text like `3 07`, and writes it.
 fn write_home(alloc: Global, left: &mut Left, written: &str) -> Result<(), RowError> {
     let (block, bytes) = block_in(alloc, written)?;
     if block >= left.device.blocks(Area::Home) || left.device.block_size() != SIZE {
@@ -102,7 +99,6 @@ fn write_home(alloc: Global, left: &mut Left, written: &str) -> Result<(), RowEr
     }
 }
 
-/// The number and the bytes of a text like `3 07`.
 fn block_in(alloc: Global, written: &str) -> Result<(u64, [u8; SIZE]), RowError> {
     let (block, byte) = cut(written, " ")?;
     match hex_bytes(alloc, byte)?.as_slice() {

@@ -1,5 +1,5 @@
-//! Wrong journals: this project's, over a disk in memory that takes some calls in another order, or silently loses one. At each moment such
-//! a disk holds what a journal would leave that makes its calls in that order, or goes on as if no call had failed.
+//! Wrong journals: this project's, over a disk in memory that takes some calls in another order, or silently loses one. Such a disk holds
+//! what a journal would leave that makes its calls in that order, or goes on as if no call had failed.
 ghost use Rattle.std.specs.Prelude.{◌≡◌};
 
 use block_device::{Device, DeviceFault, FailOnce, MemDevice, StopAt};
@@ -61,7 +61,6 @@ struct Reordered {
 const COMMIT_BLOCK: [u8; 8] = [0xc0, 0x3b, 0x39, 0x98, 0, 0, 0, 2];
 
 impl Reordered {
-    /// A disk in place of this one.
     fn over(disk: MemDevice, order: Order, lost: u64) -> Result<Self, JournalError> {
         match disk.try_clone() {
             Ok(told) => Ok(Reordered {
@@ -77,13 +76,13 @@ impl Reordered {
         }
     }
 
-    /// Its true content after the last call; the waiting flush is done.
+    /// The true content after the last call; the waiting flush is done.
     fn into_real(mut self) -> MemDevice {
         self.flush_waiting();
         self.into_stopped()
     }
 
-    /// Its true content after a loss of power.
+    /// The true content after a loss of power.
     fn into_stopped(self) -> MemDevice {
         let Reordered {
             told: _,
@@ -97,7 +96,6 @@ impl Reordered {
         real
     }
 
-    /// Whether a write overtakes the waiting flush of an area.
     fn overtakes(&self, waiting: Area, area: Area, n: u64, bytes: &[u8]) -> bool {
         match self.order {
             Order::AsMade => false,
@@ -111,7 +109,6 @@ impl Reordered {
         }
     }
 
-    /// Counts a call. Returns whether it is the lost one.
     fn loses(&mut self) -> bool
         ensures { self.new.told ≡ self.old.told }
     {
@@ -191,14 +188,13 @@ impl Device for Reordered {
 }
 
 impl WrongJournal {
-    /// A disk that takes calls in the order of openings, and stops at write `k`, or never.
+    /// The disk of an opening, which stops at write `k`, or never.
     fn device(&self, disk: MemDevice, k: u64) -> Result<StopAt<Reordered>, JournalError> {
         let disk = Reordered::over(disk, self.openings, NEVER)?;
         Ok(StopAt::new(disk, k))
     }
 
-    /// A disk that takes calls in the order of runs, and stops at write `stop`, or never. Its call `call` fails, or is lost if this journal
-    /// ignores failures.
+    /// The disk of a run, which stops at write `stop`, or never; call `call` fails, or is lost if this journal ignores failures.
     fn run_device(
         &self,
         disk: MemDevice,
@@ -214,7 +210,7 @@ impl WrongJournal {
         Ok(FailOnce::new(StopAt::new(disk, stop), fails))
     }
 
-    /// Opens an empty log for a run. The stop and the call are counted from the end of the opening.
+    /// Opens an empty log for a run; the stop and the call are counted after that.
     fn opened(
         &self,
         alloc: Global,
@@ -233,7 +229,7 @@ impl WrongJournal {
     }
 }
 
-/// The number of this call counted from before the opening of an empty log; `NEVER` for none.
+/// The number of a call after the opening, counted from before it; `NEVER` for none.
 fn call_behind_opening(
     alloc: Global,
     measures: &Measures,
@@ -252,7 +248,6 @@ fn calls_of_opening(alloc: Global, measures: &Measures) -> Result<u64, JournalEr
     }
 }
 
-/// The true content of a disk.
 fn real_of(device: StopAt<Reordered>) -> MemDevice {
     let is_stopped = device.is_stopped();
     let disk = device.into_inner();
