@@ -47,8 +47,8 @@ running_world opening j state directs answered = record {
   past = [];
 }
 
--- Moves of the machine lead from a new journal, on a device whose disk satisfied `Fact`, to this journal. Each direct write is of a block
--- that an operation writes directly. `shown` is the greatest transaction that a wait or a status answered committed.
+-- Moves of the machine lead from a new journal, on a device whose disk satisfied `Fact`, to this one. Each direct write is of a block that
+-- an operation writes directly. `shown` is the greatest transaction that was answered committed.
 pub record HasLedTo (Fact : Shape → Disk → Type 0) (operations : List Operation) (j : Journal) (state : DeviceState) (shown : Option ℕ) : Type 0 where
   pub measures : j.engine.shape ≡ state.shape
   pub opening : Disk
