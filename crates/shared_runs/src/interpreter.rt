@@ -158,7 +158,7 @@ impl<'j, J: JournalName, R: Wait> Interpreter<'j, J, R> {
         self.acknowledged = self.acknowledged.max(Some(tid));
     }
 
-    /// Starts a handle, if its name stands for no open one. After a refused start the name stands for nothing.
+    /// Starts a handle, if its name stands for no open one. After a refusal the name stands for nothing.
     fn start(&mut self, name: HandleName, credits: u64) -> Outcome {
         if !self.slots.is_free(name) {
             return Outcome::Skipped;
@@ -176,7 +176,6 @@ impl<'j, J: JournalName, R: Wait> Interpreter<'j, J, R> {
         }
     }
 
-    /// Writes, revokes or reads through the open handle that a name stands for, or extends it.
     fn touch(&mut self, name: HandleName, operation: &Operation) -> Outcome {
         match self.take(name) {
             Slot::Open(handle) => {
@@ -245,7 +244,7 @@ impl<'j, J: JournalName, R: Wait> Interpreter<'j, J, R> {
         }
     }
 
-    /// Stops a handle and starts one in its place. After a refusal the name stands for the stopped handle's ticket.
+    /// Restarts a handle. After a refusal the name stands for the stopped handle's ticket.
     fn restart(&mut self, name: HandleName, credits: u64) -> Outcome {
         match self.take(name) {
             Slot::Open(handle) => self.restart_open(name, handle, credits),
@@ -293,7 +292,7 @@ impl<'j, J: JournalName, R: Wait> Interpreter<'j, J, R> {
         }
     }
 
-    /// Requests a commit. A receipt's transaction is already committed, so the journal need not be asked.
+    /// Requests a commit; for a receipt, whose transaction is committed, the journal need not be asked.
     fn request(&mut self, name: HandleName) -> Outcome {
         match self.take(name) {
             Slot::Stopped(ticket) => {
