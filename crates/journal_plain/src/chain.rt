@@ -312,7 +312,6 @@ fn texts(
     }
 }
 
-/// Whether the block is a malformed descriptor with this number.
 fn is_bad_descriptor(
     alloc: Global,
     measures: Measures,
@@ -327,7 +326,6 @@ fn is_bad_descriptor(
     Ok(tags(alloc, measures, sequence, block)?.is_none())
 }
 
-/// Whether the block is a malformed revoke block with this number.
 fn is_bad_revoke_block(
     alloc: Global,
     measures: Measures,
@@ -357,7 +355,7 @@ fn is_malformed(
 }
 
 /// The chain of a log's blocks from transaction `sequence` on: the longest list of texts at their beginning, with numbers in a row. A block
-/// has `block_size` bytes, a block number one to eight (`number_bytes`), and home `count` blocks. Fails if memory runs out.
+/// has `block_size` bytes, a block number `number_bytes` (1 to 8), and home `count` blocks. Fails if memory runs out.
 pub fn chain(
     alloc: Global,
     block_size: usize,
@@ -379,8 +377,8 @@ pub fn chain(
     Ok(texts)
 }
 
-/// The damaged block after the chain, counted from the first block, if there is one: the first block after the chain and the well-formed
-/// pieces that follow it, if it is a malformed one with the next number. The parameters are those of `chain`. Fails if memory runs out.
+/// The damaged block after the chain, counted from the first block, if any: the block after the chain and the well-formed pieces that
+/// follow it, if it is malformed and has the next number. The parameters are those of `chain`. Fails if memory runs out.
 pub fn damage(
     alloc: Global,
     block_size: usize,

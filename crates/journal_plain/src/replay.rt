@@ -68,7 +68,7 @@ fn unescaped(alloc: Global, escaped: bool, stored: &Block) -> Result<Block, Allo
     Ok(Block::new(bytes)?)
 }
 
-/// Adds copies to the list, each as replay writes it, with its tag's home block. Fails if memory runs out.
+/// Adds copies to the list, as replay writes them. Fails if memory runs out.
 fn add_copies(
     alloc: Global,
     list: &mut Items<(BlockNo, Block)>,
