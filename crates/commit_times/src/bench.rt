@@ -58,9 +58,9 @@ impl Done {
     }
 }
 
-/// Opens the log of a device and commits transactions one by one as the words say, each with the given number of copies. Closes the
-/// journal, and prints how many transactions there were, how many per second, how long commits took, and which calls the device got.
-/// Notifies `watch` each second. The device comes back if all was done; its journal is then closed. Else one line on `err` says why.
+/// Opens the log of a device, commits transactions one by one as the words say, each of the given number of copies, and closes the journal.
+/// Prints how many transactions there were and how many per second, how long commits took, and the device's calls. Notifies `watch` each
+/// second. The device comes back if all was done; its journal is then closed. Else one line on `err` says why.
 ///
 /// # Errors
 ///
@@ -87,7 +87,6 @@ pub fn bench<D: Device + Drop, C: Clock, H: Watch + Drop, W: Write + Drop, E: Wr
     }
 }
 
-/// Does the transactions, and prints the results.
 fn do_and_say<D: Device + Drop, C: Clock, H: Watch, W: Write>(
     alloc: Global,
     words: &BenchWords<'_>,
@@ -155,7 +154,6 @@ impl<D: Device + Drop> Run<D> {
     }
 }
 
-/// Does transactions until the words' count or time is reached, and closes the journal.
 fn do_all<D: Device + Drop, C: Clock, H: Watch>(
     alloc: Global,
     words: &BenchWords<'_>,
@@ -247,7 +245,7 @@ fn a_second(count: u64, taken: Duration) -> u128 {
     u128::from(count) * 1_000_000_000 / taken.as_nanos().max(1)
 }
 
-/// Prints the results of the transactions and commits, and the device's calls, as the words say.
+/// Prints the results as the words say.
 pub(crate) fn say<D, W: Write>(
     words: &BenchWords<'_>,
     done: Done,
@@ -262,7 +260,7 @@ pub(crate) fn say<D, W: Write>(
     }
 }
 
-/// Prints two lines: the names of the columns, and their values.
+/// Prints the names of the columns, and their values.
 fn say_values<D, W: Write>(
     words: &BenchWords<'_>,
     done: Done,

@@ -68,7 +68,7 @@ impl<'s, J: JournalName, D: Device, C> Shared<'s, J, D, C> {
     }
 
     /// Waits until no other client makes a change. A change takes a few microseconds, but each of its calls takes the journal's lock, and a
-    /// thread that finds it taken soon sleeps. A sleep and a wake take longer than all changes of a commit in sequence.
+    /// thread that finds it taken soon sleeps: a sleep and a wake take longer than all changes of a commit in sequence.
     pub(crate) fn alone<W: Wait>(&self, rt: &W) -> MutexGuard<'_, ()> {
         for _ in 0..LOOKS {
             if let Some(guard) = self.changes.try_lock() {
@@ -187,7 +187,7 @@ impl<'s, J: JournalName, D: Device, C: Clock> Client<'s, J, D, C> {
         Ok(())
     }
 
-    /// Writes the blocks of the next transaction through one handle, and stops that, also after a refused write.
+    /// Writes the next transaction's blocks through one handle, and stops that, also after a refusal.
     fn change<W: Wait>(&mut self, rt: &W) -> Result<Ticket<J>, JournalError> {
         let (mut handle, alone) = self.start(rt)?;
         let written = self.write_all(rt, &mut handle);
@@ -198,7 +198,7 @@ impl<'s, J: JournalName, D: Device, C: Clock> Client<'s, J, D, C> {
         Ok(ticket)
     }
 
-    /// A handle with credits for its blocks, while no other client makes a change. It waits while the running transaction takes no handles,
+    /// A handle with credits for its blocks, while no other client makes a change. Waits while the running transaction takes no handles,
     /// and while others hold the credits; if nobody takes turns then, it does.
     fn start<W: Wait>(
         &mut self,

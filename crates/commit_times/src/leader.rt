@@ -27,7 +27,7 @@ impl Events {
     }
 }
 
-/// The state of checkpoint rounds, and how many handles the next commit waits for. Only the leader uses it.
+/// The state of checkpoint rounds, and how many handles the next commit waits for; for the leader alone.
 #[derive(Clone, Copy)]
 pub(crate) struct Rounds {
     /// How many commit steps were taken since the last round began.
@@ -79,9 +79,9 @@ impl Rounds {
         self.under_way = false;
     }
 
-    /// Notes a commit of so many steps. If a round is under way, a part of it with as many steps comes next. If half of the ring may be
-    /// taken, a round begins. A transaction takes at most a quarter of the ring, and its credits are about as many blocks; each ring block
-    /// takes a step.
+    /// Notes a commit of this many steps. If a round is under way, a part of it with as many steps comes next. A round begins if half of
+    /// the ring may be taken: a transaction takes at most a quarter, its credits are about as many blocks, and each ring block takes a
+    /// step.
     fn note(&mut self, steps: u64, capacity: u64) {
         self.steps = self.steps.saturating_add(steps);
         if self.steps / 2 >= capacity {
@@ -98,8 +98,8 @@ impl Rounds {
     }
 }
 
-/// Commits the running transaction for all handles that have joined it, unless another client takes turns; then the answer is false.
-/// Handles that join during the commit belong to the next one.
+/// Commits the running transaction for all handles that have joined it; false if another client takes turns. Handles that join during the
+/// commit belong to the next one.
 ///
 /// # Errors
 ///
@@ -124,8 +124,8 @@ pub(crate) fn lead<J: JournalName, D: Device, W: Wait>(
 /// Takes a part of a round, lets all clients of the last commit join again, and commits the running transaction.
 ///
 /// jbd2 waits too: a handle that must become durable lets others join for about the average time of a commit, if the last such handle was
-/// another thread's. Here the wait ends once each client of the last commit has stopped another handle, and after a short while in any
-/// case. Without it, commits would alternate between all handles but one and that one, which comes back before the others have woken.
+/// another thread's. Here the wait ends once each client of the last commit has stopped another handle, and soon in any case. Without it,
+/// commits would alternate between all handles but one and that one, which comes back before the others have woken.
 /// Source: fs/jbd2/transaction.c by behaviour (`jbd2_journal_stop`, `j_average_commit_time`).
 fn commit<J: JournalName, D: Device, W: Wait>(
     rt: &W,
@@ -157,9 +157,9 @@ fn commit<J: JournalName, D: Device, W: Wait>(
     Ok(())
 }
 
-/// Takes the due part of a round before a commit, with as many steps as the last commit had. A round writes no more blocks than the ring
-/// had taken when it began, so it is over when about as many more are taken: no commit waits for a whole round. Meanwhile other clients of
-/// the last commit make their next changes.
+/// Takes the due part of a round, with as many steps as the last commit had. A round writes no more blocks than the ring had taken when it
+/// began, so it is over when about as many more are taken: no commit waits for a whole round. Meanwhile other clients make their next
+/// changes.
 fn keep_room<J: JournalName, D: Device, W: Wait>(
     rt: &W,
     journal: &Journal<J, D>,

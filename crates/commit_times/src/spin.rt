@@ -3,8 +3,8 @@ use event_counter::EventCounter;
 use std::sync::Wait;
 use std::thread;
 
-/// How often a waiting thread looks before it sleeps. It yields after each look, so that this takes some two hundred microseconds: longer
-/// than a commit whose sync costs nothing, and about as long as one on a fast disk.
+/// How often a waiting thread looks, and yields, before it sleeps: some two hundred microseconds, longer than a commit whose sync costs
+/// nothing, and about as long as one on a fast disk.
 pub(crate) const LOOKS: u32 = 200;
 
 /// Looks for a short while until there were this many events.

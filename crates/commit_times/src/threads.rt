@@ -22,10 +22,9 @@ use std::thread::{JoinHandle, Scope, Threads};
 use std::time::Clock;
 use std::{io, thread};
 
-/// Opens the log of a device, lets this many clients commit changes as the words say, each through one handle with the given number of
-/// copies at a time, and closes the journal. Prints what `bench::bench` prints, and how many handles a commit had. One client works in the
-/// caller's thread, the others in threads of their own. Notifies `watch` each second. The device comes back if all was done; its journal is
-/// then closed. Else one line on `err` says why.
+/// Opens the log of a device, lets this many clients commit changes as the words say, each through one handle of the given number of copies
+/// at a time, and closes the journal. Prints what `bench::bench` prints, and how many handles a commit had. One client works in the
+/// caller's thread, the others in threads of their own. `watch`, the device and `err` are as for `bench::bench`.
 ///
 /// # Errors
 ///
@@ -63,7 +62,6 @@ pub fn bench<
     }
 }
 
-/// Does the transactions, and prints the results.
 fn do_and_say<
     D: Device + Send + Drop,
     R: Threads + Wait + Sync,
