@@ -116,12 +116,10 @@ fn new_work<D: Device + Drop>(alloc: Global, opened: Opened<D>) -> Result<Work<D
     Work::new(alloc, opened)
 }
 
-/// The time of the clock, from its own start.
 fn now<C: Clock>(clock: &C) -> Result<Instant, Fault> {
     Instant::now(clock).map_err(Fault::of_clock)
 }
 
-/// The work so far.
 #[derive(Drop)]
 struct Run<D: Device> {
     work: Work<D>,
@@ -185,7 +183,6 @@ fn begin<D: Device + Drop, C: Clock>(
     }
 }
 
-/// Does transactions until the words' count or time is reached.
 fn do_transactions<D: Device + Drop, C: Clock, H: Watch>(
     run: &mut Run<D>,
     words: &BenchWords<'_>,
@@ -202,7 +199,6 @@ fn do_transactions<D: Device + Drop, C: Clock, H: Watch>(
     Ok(())
 }
 
-/// Does one more transaction.
 fn one_more<D: Device + Drop, C: Clock, H: Watch>(
     run: &mut Run<D>,
     plan: &mut Plan,
@@ -221,7 +217,6 @@ fn one_more<D: Device + Drop, C: Clock, H: Watch>(
     Ok(())
 }
 
-/// Closes the journal.
 fn end<D: Device + Drop>(run: Run<D>) -> Result<(Done, D), Fault>
     ensures { IfOk result (λ ended. D.honest ended.1 → IsLeftClosed (D.state ended.1)) }
 {
@@ -235,12 +230,10 @@ fn end<D: Device + Drop>(run: Run<D>) -> Result<(Done, D), Fault>
     Ok((Done { tally, taken }, device))
 }
 
-/// Whether the time limit, if any, is reached.
 fn is_over(taken: Duration, most: Option<Duration>) -> bool {
     most.is_some_and(|most| taken >= most)
 }
 
-/// How many per second.
 fn a_second(count: u64, taken: Duration) -> u128 {
     u128::from(count) * 1_000_000_000 / taken.as_nanos().max(1)
 }
@@ -260,7 +253,6 @@ pub(crate) fn say<D, W: Write>(
     }
 }
 
-/// Prints the names of the columns, and their values.
 fn say_values<D, W: Write>(
     words: &BenchWords<'_>,
     done: Done,
@@ -299,7 +291,6 @@ fn say_shares<W: Write>(ranked: &Ranked, out: &mut W) -> io::Result<()> {
     write!(out, ",{}", ranked.greatest())
 }
 
-/// Prints lines for people.
 fn say_lines<D, W: Write>(
     words: &BenchWords<'_>,
     done: Done,

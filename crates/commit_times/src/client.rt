@@ -168,7 +168,6 @@ impl<'s, J: JournalName, D: Device, C: Clock> Client<'s, J, D, C> {
         }
     }
 
-    /// Makes a durable change and times its commit. Returns its receipt.
     fn timed<W: Wait>(&mut self, rt: &W) -> Result<Receipt<J>, Fault>
         ensures { IfOk result (λ receipt. receipt.ticket.tid ≤ receipt.ticket.seen) }
     {
@@ -180,7 +179,6 @@ impl<'s, J: JournalName, D: Device, C: Clock> Client<'s, J, D, C> {
         Ok(receipt)
     }
 
-    /// Notes a commit by the times of its request and its end.
     fn note(&mut self, asked: Instant, committed: Instant) -> Result<(), Fault> {
         self.done.tally.add(committed.duration_since(asked))?;
         self.done.taken = committed.duration_since(self.shared.begun);
@@ -236,7 +234,6 @@ impl<'s, J: JournalName, D: Device, C: Clock> Client<'s, J, D, C> {
         Ok(())
     }
 
-    /// Writes a block that is filled with one byte.
     fn write<W: Wait>(
         &mut self,
         rt: &W,

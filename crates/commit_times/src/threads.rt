@@ -101,7 +101,6 @@ fn plans(alloc: Global, copies: u64, home_blocks: u64, clients: u64) -> Result<V
     Ok(plans)
 }
 
-/// An unnamed shared journal on the log of a device.
 fn lay_on<D: Device + Drop>(alloc: Global, device: D) -> Result<LaidJournal<D>, JournalError> {
     match recovery::open(alloc, device) {
         Ok(opened) => match lay(alloc, opened) {
@@ -342,7 +341,6 @@ fn both(one: Result<Done, Fault>, other: Result<Done, Fault>) -> Result<Done, Fa
     }
 }
 
-/// Prints how many commits there were, and how many handles each had.
 fn say_commits<W: Write>(commits: u64, handles: u64, out: &mut W) -> Result<(), Fault> {
     let hundredths = u128::from(handles) * 100 / u128::from(commits.max(1));
     writeln!(

@@ -98,7 +98,6 @@ impl<D: Device + Drop> Work<D> {
         Ok(())
     }
 
-    /// Writes a block that is filled with one byte.
     fn write(&mut self, handle: &mut Handle, block: BlockNo, fill: u8) -> Result<(), JournalError> {
         self.bytes.resize(self.journal.block_size(), 0)?;
         self.bytes.fill(fill);
@@ -146,7 +145,6 @@ pub(crate) fn close<D: Device + Drop>(journal: Journal<D>) -> Result<D, JournalE
     closed(journal)
 }
 
-/// Closes a journal without open handles.
 fn closed<D: Device + Drop>(journal: Journal<D>) -> Result<D, JournalError>
     requires { journal.journal.front.open_handles ≡ [] }
     ensures { IfOk result (λ device. D.honest device → IsLeftClosed (D.state device)) }

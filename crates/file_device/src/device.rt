@@ -131,7 +131,6 @@ impl<C: Contents> Model for FileDevice<C> {
         × KeepsGathered d.size d.gathered };
 }
 
-/// Where block `n` of a file of `length` bytes begins.
 fn place_of(n: u64, size: usize, length: u64) -> u64
     requires size { 0 < size }
     requires there { n < length / size }
@@ -200,7 +199,6 @@ impl<C: Contents> FileDevice<C> {
         goes_on
     }
 
-    /// Hands out block `n` of the log, if it was read ahead.
     fn hand_out(&mut self, n: u64, into: &mut [u8]) -> bool
         requires block { length into.old ≡ self.old.block_size }
         ensures same { self.new ≡ self.old }
@@ -260,7 +258,6 @@ impl<C: Contents> FileDevice<C> {
         self.read_block(Area::Log, n, into)
     }
 
-    /// Reads one block that is not gathered.
     fn read_block(&mut self, area: Area, n: u64, into: &mut [u8]) -> Result<(), DeviceFault>
         requires block { length into.old ≡ self.old.block_size }
         requires there { n < blocks_in (file_state C.contents self.old).shape area }
@@ -276,7 +273,6 @@ impl<C: Contents> FileDevice<C> {
         }
     }
 
-    /// Hands out block `n` of an area, if it is gathered.
     fn hand_back(&self, area: Area, n: u64, into: &mut [u8]) -> bool
         requires block { length into.old ≡ self.now.block_size }
         ensures bytes { IsTrue result → into.new ≡ ((file_state C.contents self.now).disk area n).reads }
@@ -318,7 +314,6 @@ impl<C: Contents> FileDevice<C> {
         }
     }
 
-    /// Writes one block.
     fn write_block(&mut self, area: Area, n: u64, bytes: &[u8]) -> Result<(), DeviceFault>
         requires none { self.old.gathered ≡ [] }
         requires block { length bytes.now ≡ self.old.block_size }
@@ -339,7 +334,6 @@ impl<C: Contents> FileDevice<C> {
         }
     }
 
-    /// Writes the gathered blocks, in one call.
     fn hand_on(&mut self) -> Result<(), DeviceFault>
         ensures ok { OnOk result (self.new ≡ handed_on self.old) }
         ensures err { OnErr result (FailsToHandOn self.old self.new) }

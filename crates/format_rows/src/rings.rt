@@ -23,7 +23,6 @@ fn ring_of(first: u64, maxlen: u64) -> Result<Ring, RowError> {
     Ok(Ring::new(first, maxlen))
 }
 
-/// Releases blocks, which must be taken.
 fn release(ring: &mut Ring, count: u64) -> Result<u64, RowError> {
     if ring.blocks() - ring.free() < count {
         return Err(RowError::Unread);

@@ -30,13 +30,11 @@ use crate::words::{count, hex_byte, hex_bytes, hex32, number32, series};
 use journal_model::LogLayout;
 use std::alloc::Global;
 
-/// The magic.
 const MAGIC: u32 = 0xc03b_3998;
 
 /// The journal's UUID.
 pub const UUID: [u8; 16] = [0xaa; 16];
 
-/// The most bytes of a block.
 const MOST_BYTES: usize = 4096;
 
 /// The measures of a formatted superblock.
@@ -174,7 +172,6 @@ fn push_tag(bytes: &mut Vec<u8>, wide: bool, block: u64, flags: u32) -> Result<(
     push_number(bytes, flags)
 }
 
-/// Adds a formatted superblock.
 fn push_super(bytes: &mut Vec<u8>, measures: &Measures) -> Result<(), RowError> {
     let length = narrow(measures.log_blocks)?;
     let block_size = narrow(measures.block_size as u64)?;

@@ -40,7 +40,6 @@ fn read_number(at: usize, count: usize, bytes: &[u8]) -> u64
     number
 }
 
-/// Whether the block begins with a header of this type and transaction number.
 fn has_header(kind: u32, sequence: u64, block: &[u8]) -> bool
     ensures value { IsTrue result ↔ HasHeader kind sequence block.now }
     ensures below { IsTrue result → sequence < 2 ^ 32 }
@@ -65,7 +64,6 @@ fn tag_of(block: BlockNo, flags: u64) -> Option<Tag>
     })
 }
 
-/// The tag at the beginning of the bytes.
 fn tag_at(measures: Measures, bytes: &[u8]) -> Option<Tag>
     ensures { Finds (BeginsWithTag (layout_with measures.block_size measures.number_bytes) bytes.now) result }
 {
@@ -80,7 +78,6 @@ fn tag_at(measures: Measures, bytes: &[u8]) -> Option<Tag>
     )
 }
 
-/// Whether home has the tag's block.
 fn names_home(measures: Measures, tag: &Tag) -> bool
     ensures { IsTrue result ↔ tag.now.block < measures.count }
 {
@@ -97,7 +94,6 @@ fn bytes_of(measures: Measures, tag: &Tag) -> usize
     measures.number_bytes + 4 + uuid
 }
 
-/// The tags at the beginning of the bytes, if each names a home block.
 fn tags_in(
     alloc: Global,
     measures: Measures,
@@ -126,7 +122,6 @@ fn tags_in(
     Ok(None)
 }
 
-/// The tags of the block, if it is a well-formed descriptor with this number.
 fn tags(
     alloc: Global,
     measures: Measures,
@@ -163,7 +158,6 @@ fn count_of_numbers(measures: Measures, block: &[u8]) -> Option<usize>
     }
 }
 
-/// The first `length` numbers of the block, if each names a home block.
 fn first_numbers(
     alloc: Global,
     measures: Measures,
@@ -185,7 +179,6 @@ fn first_numbers(
     Ok(Some(numbers))
 }
 
-/// The numbers of the block, if it is a well-formed revoke block with this number.
 fn numbers(
     alloc: Global,
     measures: Measures,
@@ -213,7 +206,6 @@ fn copies_of(alloc: Global, blocks: &[Block]) -> Result<Items<Block>, AllocError
     Ok(copies)
 }
 
-/// The piece at the beginning of the blocks, and how many of them it takes.
 fn piece(
     alloc: Global,
     measures: Measures,
@@ -242,7 +234,6 @@ fn piece(
     Ok(Some((Piece::Copies(block, tags, copies), 1 + length)))
 }
 
-/// All pieces at the beginning of the blocks, and how many of them they take.
 fn pieces(
     alloc: Global,
     measures: Measures,
@@ -265,7 +256,6 @@ fn pieces(
     }
 }
 
-/// The text at the beginning of the blocks, and how many of them it takes.
 fn text(
     alloc: Global,
     measures: Measures,
@@ -340,7 +330,6 @@ fn is_bad_revoke_block(
     Ok(numbers(alloc, measures, sequence, block)?.is_none())
 }
 
-/// Whether the block is a malformed descriptor or revoke block with this number.
 fn is_malformed(
     alloc: Global,
     measures: Measures,

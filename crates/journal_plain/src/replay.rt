@@ -96,7 +96,6 @@ pub fn text_copies(alloc: Global, text: &Text) -> Result<Items<(BlockNo, Block)>
     Ok(list)
 }
 
-/// The place of the last copy of a block.
 fn last_copy(copies: &[(BlockNo, Block)], block: BlockNo) -> Option<usize>
     ensures { MatchOption result
         ((k : ℕ) (bytes : List ℕ) → slice_get copies.now k ≡ Some (block, bytes) → ⊥)

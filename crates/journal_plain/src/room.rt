@@ -43,7 +43,6 @@ pub fn need(block_size: usize, number_bytes: usize, copies: usize, revokes: usiz
     copies + descriptors + revoke_blocks + 1
 }
 
-/// Whether this many copies, with `tags` tags in a descriptor, take at most a quarter of the ring.
 fn fits_quarter(tags: usize, ring: usize, copies: usize) -> bool
     requires tags { 0 < tags }
     requires copies { copies ≤ ring / 4 }

@@ -354,7 +354,6 @@ fn bad_client(client: usize, place: usize, unfit: Unfit) -> ScriptError {
     }
 }
 
-/// Reads one more operation.
 fn read_next(
     alloc: Global,
     value: &Value,

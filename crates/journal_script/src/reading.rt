@@ -95,7 +95,6 @@ fn require_device(alloc: Global, value: &Value, device: &Measures) -> Result<(),
     require_width(alloc, value, device.wide)
 }
 
-/// Fails if a key is present with another number.
 fn require_number(alloc: Global, value: &Value, key: Key, number: u64) -> Result<(), ScriptError>
     ensures { OnOk result (IsAt (get (key_name key) (view value.now)) (number_value number)) }
 {
@@ -127,7 +126,6 @@ fn disagrees(
     }
 }
 
-/// Fails if a different UUID is present.
 fn require_uuid(alloc: Global, value: &Value, uuid: &[u8; 16]) -> Result<(), ScriptError>
     ensures { OnOk result (IfSome (get (key_name Uuid) (view value.now)) (IsHexOf uuid.now)) }
 {
@@ -154,7 +152,6 @@ fn quoted_digits(alloc: Global, uuid: &[u8; 16]) -> Result<String, AllocError> {
     Ok(text)
 }
 
-/// Fails if a different width is present.
 fn require_width(alloc: Global, value: &Value, wide: bool) -> Result<(), ScriptError>
     ensures { OnOk result (IsAt (get (key_name Wide) (view value.now)) (boolean wide)) }
 {

@@ -26,7 +26,6 @@ use journal_model::{Area, Items};
 use std::alloc::Global;
 use std::fmt::Write;
 
-/// Bytes of a block.
 const SIZE: usize = 4;
 
 /// A device in memory, or one over it that stops, or that fails once.

@@ -43,7 +43,6 @@ fn texts_of(alloc: Global, log: &Log, number: u64) -> Result<Items<Text>, RowErr
     )?)
 }
 
-/// Splits off a line `number=N`.
 fn numbered_log(alloc: Global, given: &str) -> Result<(u64, Log), RowError> {
     let (head, lines) = given.split_once('\n').unwrap_or((given, ""));
     let [number] = values::<1>(head, "number")?;

@@ -59,7 +59,6 @@ impl Tally {
         Ok(self.answers.push((String::from_str(alloc, answer)?, 1))?)
     }
 
-    /// The text of the counts.
     fn text(&self, alloc: Global) -> Result<String, AllocError> {
         let mut all = format!(in alloc; "{} images, writes {}\n", self.images, self.writes)?;
         for (answer, count) in &self.answers {

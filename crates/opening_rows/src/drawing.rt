@@ -25,7 +25,6 @@ impl Draws {
         }
     }
 
-    /// The next number, below `end`.
     fn below(&mut self, end: u64) -> u64
         requires { 0 < end }
         ensures { result < end }
@@ -33,7 +32,6 @@ impl Draws {
         self.generator.next_u64() % end
     }
 
-    /// True once in `times` times.
     fn once_in(&mut self, times: u64) -> bool
         requires { 0 < times }
     {
@@ -41,7 +39,6 @@ impl Draws {
     }
 }
 
-/// The measures of a log.
 #[derive(Clone, Copy)]
 struct Measures {
     /// The first block of the ring, and the one after its last.
@@ -292,7 +289,6 @@ impl RandomLog {
         }
     }
 
-    /// Writes the next block of the log, if the ring has room.
     fn write(&mut self, words: String) {
         let measures = self.measures;
         let used = self.used;
@@ -318,7 +314,6 @@ impl RandomLog {
         Ok(())
     }
 
-    /// Writes a revoke block, or a descriptor with its copies.
     fn write_piece(
         &mut self,
         alloc: Global,

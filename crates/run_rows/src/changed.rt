@@ -205,7 +205,6 @@ fn device_behind<J: Runner>(
     }
 }
 
-/// Crashes the device without unflushed writes, and opens its log.
 fn opened_device(alloc: Global, device: MemDevice) -> Result<MemDevice, RowError> {
     match open(alloc, device.crash(&[])) {
         Ok(opened) => Ok(opened.into_device()),

@@ -105,7 +105,6 @@ fn fault_of(step: &str) -> Result<Fault, RowError> {
     }
 }
 
-/// The writes of an opening after a close and a loss of power.
 fn writes_of_opening(alloc: Global, closed: Closed) -> Result<u64, RowError> {
     match open(alloc, closed.device.crash(&[])) {
         Ok(opened) => Ok(opened.into_device().writes()),

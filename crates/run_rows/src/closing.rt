@@ -60,7 +60,6 @@ pub fn close_after(alloc: Global, fault: Fault, steps: &str) -> Result<Closed, R
     close(alloc, user)
 }
 
-/// Closes a journal without open handles.
 fn close(alloc: Global, user: User) -> Result<Closed, RowError> {
     let User { journal, named } = user;
     if journal.has_open_handles() {

@@ -25,7 +25,6 @@ pub struct Interpreter<'a, D: Device, H: HomeFact> {
     slots: Slots,
 }
 
-/// Copies as many bytes as both have to the front of `to`.
 fn copy_front(to: &mut [u8], from: &[u8])
     ensures { to.new ≡ take (min (length to.old) (length from.now)) from.now ++ drop (min (length to.old) (length from.now)) to.old }
 {
@@ -33,7 +32,6 @@ fn copy_front(to: &mut [u8], from: &[u8])
     to[..n].copy_from_slice(&from[..n]);
 }
 
-/// The first bytes, filled up with zeros.
 fn front_of(bytes: &[u8]) -> [u8; PRINTED_BYTES]
     ensures { result ≡ block_from 8 bytes.now }
 {
@@ -42,7 +40,6 @@ fn front_of(bytes: &[u8]) -> [u8; PRINTED_BYTES]
     begins
 }
 
-/// A block of `size` bytes: the given ones, cut at `size`, then zeros.
 fn block_of(alloc: Global, size: usize, bytes: &[u8]) -> Result<Vec<u8>, AllocError>
     ensures { IfOk result (λ block. block.items ≡ block_from size bytes.now) }
 {
@@ -175,7 +172,6 @@ impl<'a, D: Device + Drop, H: HomeFact> Interpreter<'a, D, H> {
         self.into_stopped().close()
     }
 
-    /// The client, after the open handles are stopped.
     fn into_stopped(self) -> Client<'a, D, H>
         ensures operations { result.operations ≡ self.entry.client.operations }
         ensures left { IsLeftOf self.entry.client result.journal.device result.journal.journal.front.sealed result.shown }
@@ -254,7 +250,6 @@ impl<'a, D: Device + Drop, H: HomeFact> Interpreter<'a, D, H> {
         }
     }
 
-    /// Writes a block through a handle: these bytes, then zeros.
     fn write(&mut self, handle: &mut Handle, block: BlockNo, bytes: &[u8]) -> Outcome
         ensures rest { IsSameButJournal self.old.client self.new.client }
         ensures done { WritesBlock D.state block bytes.now result handle.old handle.new self.old.client.journal self.new.client.journal }

@@ -217,7 +217,6 @@ fn write_line<W: Write>(operation: &Operation, outcome: &Outcome, out: &mut W) -
     writeln!(out, "{operation} = {outcome}")
 }
 
-/// The refusal that ends the list at this outcome, if any.
 fn last_refusal(outcome: Outcome, after: AfterRefusal) -> Option<JournalError>
     ensures some { IfSome result (λ e. (outcome ≡ Refused e) × EndsApply after e) }
     ensures none { IfNone result (IsLastApplied after outcome → ⊥) }

@@ -94,7 +94,6 @@ fn are_alike<D: Device>(image: &MemDevice, to: &D) -> bool
         && to.blocks(Area::Home) == image.blocks(Area::Home)
 }
 
-/// Copies both areas through a buffer of one block, and flushes them.
 fn copy_areas<D: Device>(
     image: &mut MemDevice,
     to: &mut D,

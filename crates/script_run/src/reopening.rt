@@ -74,7 +74,6 @@ pub fn open_to(alloc: Global, image: MemDevice, k: u64) -> Result<Attempt, Journ
     }
 }
 
-/// A whole opening, which made fewer than `k` writes.
 fn whole(device: MemDevice, report: Report, next: Tid, k: u64) -> Result<Attempt, JournalError>
     ensures whole { IfOk result (IsWholeAttempt (record { device = device; report = report; next = next }) k) }
     ensures other { IfErr result (λ e. e ≡ Device) }
@@ -103,7 +102,6 @@ fn stopped(device: MemDevice, k: u64, e: JournalError) -> Result<Attempt, Journa
     }
 }
 
-/// Opens the crash image of a stopped opening, and does as `judge_reopened`.
 fn judge_second(
     alloc: Global,
     left: MemDevice,

@@ -202,7 +202,6 @@ fn stopped_of<H: HomeFact>(performed: Performed<RunDevice>, stop: Option<u64>) -
     }
 }
 
-/// Whether a device stopped at `stop`, or made fewer writes.
 fn is_stopped_by(stop: Option<u64>, stopped: &Stopped) -> bool
     ensures { IsTrue result ↔ IsStoppedBy stop stopped.now }
 {

@@ -149,7 +149,6 @@ fn are_bytes_left(last: &BTreeMap<u64, &Op>, named: &NamedBlocks, block: u64, by
     }
 }
 
-/// Whether a block may have these bytes after this last operation.
 fn are_left_by(op: &Op, named: &NamedBlocks, block: u64, bytes: &[u8]) -> bool
     ensures { IsTrue result ↔ IsLeftBy (entry_of op.now) (Contains (keys named.now.directs) block) (length bytes.now) bytes.now }
 {

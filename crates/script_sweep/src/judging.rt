@@ -139,7 +139,6 @@ impl<J: Swept> Ran<'_, J> {
         }
     }
 
-    /// Prints what is not right: the options that show it, and the record.
     fn name<E: Write>(
         &self,
         place: Place<'_>,

@@ -106,7 +106,6 @@ impl<J: Swept> Ran<'_, J> {
         self.sweep_image(place, &image, counts, err)
     }
 
-    /// Opens and judges a crash image, and sweeps the stops of its opening.
     fn sweep_image<E: Write>(
         &self,
         place: Place<'_>,

@@ -26,7 +26,6 @@ pub(crate) struct Interpreter<'j, J: JournalName, R: Wait> {
     acknowledged: Option<Tid>,
 }
 
-/// Copies as many bytes as both have to the front of `to`.
 fn copy_front(to: &mut [u8], from: &[u8])
     ensures { length to.new ≡ length to.old }
 {
@@ -34,14 +33,12 @@ fn copy_front(to: &mut [u8], from: &[u8])
     to[..n].copy_from_slice(&from[..n]);
 }
 
-/// The first bytes, filled up with zeros.
 fn front_of(bytes: &[u8]) -> [u8; PRINTED_BYTES] {
     let mut begins = [0; PRINTED_BYTES];
     copy_front(&mut begins, bytes);
     begins
 }
 
-/// A block of `size` bytes: the given ones, cut at `size`, then zeros.
 fn block_of(alloc: Global, size: usize, bytes: &[u8]) -> Result<Vec<u8>, AllocError>
     ensures { IfOk result (λ block. length block.items ≡ size) }
 {
@@ -139,7 +136,6 @@ impl<'j, J: JournalName, R: Wait> Interpreter<'j, J, R> {
         acknowledged
     }
 
-    /// Takes what a name stands for; the name then stands for nothing.
     fn take(&mut self, name: HandleName) -> Slot<'j, J> {
         self.slots.replace(name, Slot::Empty)
     }
@@ -207,7 +203,6 @@ impl<'j, J: JournalName, R: Wait> Interpreter<'j, J, R> {
         }
     }
 
-    /// Writes a block through a handle: these bytes, then zeros.
     fn write(
         &mut self,
         handle: &mut Handle<'j, J, Vec<Sealed>>,
@@ -342,7 +337,6 @@ impl<'j, J: JournalName, R: Wait> Interpreter<'j, J, R> {
         }
     }
 
-    /// Takes checkpoint turns up to the first that has nothing to do.
     fn check(&mut self) -> Outcome {
         for _ in 0..MOST_TURNS {
             match self.journal.checkpoint_turn(self.rt) {
@@ -354,7 +348,6 @@ impl<'j, J: JournalName, R: Wait> Interpreter<'j, J, R> {
         Outcome::CheckTurn(CheckTurn::Idle)
     }
 
-    /// Takes commit turns up to the first that has nothing to do.
     fn commit(&mut self) -> Outcome {
         for _ in 0..MOST_TURNS {
             match self.journal.commit_turn(self.rt) {
@@ -392,7 +385,6 @@ impl<'j, J: JournalName, R: Wait> Interpreter<'j, J, R> {
         }
     }
 
-    /// A status as an outcome. If the transaction is committed, that is noted.
     fn told(&mut self, tid: Tid, status: Status) -> Outcome {
         match status {
             Status::Committed => {
@@ -453,7 +445,6 @@ impl<'j, J: JournalName, R: Wait> Interpreter<'j, J, R> {
         Outcome::Transaction(receipt.tid())
     }
 
-    /// Writes a block directly: these bytes, then zeros.
     fn write_direct(&mut self, block: BlockNo, bytes: &[u8]) -> Outcome {
         match block_of(self.alloc, self.journal.block_size(), bytes) {
             Ok(whole) => { done_or_refused(self.journal.write_direct(self.rt, block, &whole)) }

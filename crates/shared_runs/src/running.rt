@@ -155,7 +155,6 @@ fn done_on<R: Wait>(
     }
 }
 
-/// The same on a journal with the name `J`.
 fn done_by<J: JournalName, R: Wait>(
     rt: &R,
     alloc: Global,
@@ -214,7 +213,6 @@ fn perform_all<J: JournalName, R: Wait>(
     Ok(())
 }
 
-/// Whether no operation is performed after this outcome.
 fn is_last(outcome: &Outcome, after: AfterFailure) -> bool {
     after == AfterFailure::End && matches!(outcome, Outcome::Refused(JournalError::Device))
 }

@@ -11,10 +11,8 @@ use journal_script::NamedBlocks;
 use script_run::Record;
 use std::alloc::{AllocError, Global};
 
-/// Bytes of a block.
 const SIZE: usize = 16;
 
-/// Blocks of home.
 const HOME: u64 = 8;
 
 #[derive(Drop)]

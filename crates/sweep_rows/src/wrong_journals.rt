@@ -188,7 +188,6 @@ impl Device for Reordered {
 }
 
 impl WrongJournal {
-    /// The disk of an opening, which stops at write `k`, or never.
     fn device(&self, disk: MemDevice, k: u64) -> Result<StopAt<Reordered>, JournalError> {
         let disk = Reordered::over(disk, self.openings, NEVER)?;
         Ok(StopAt::new(disk, k))
