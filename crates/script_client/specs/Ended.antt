@@ -17,7 +17,7 @@ use Rattle.journal_script.specs.declared.script.Operation.{Operation}
 use Rattle.script_client.specs.Told.{AreDirectsOf, greatest_of}
 
 -- the world of a journal in this phase, on a device whose log was opened with this disk, with these direct writes and these transactions
--- answered committed
+-- acknowledged
 abbrev pub world_in : Phase → (opening : Disk) → Journal → DeviceState → (directs : List (ℕ × List ℕ)) → (answered : List ℕ) → JournalWorld
 world_in phase opening j state directs answered = record {
   below = record {
@@ -32,8 +32,8 @@ world_in phase opening j state directs answered = record {
 }
 
 -- Moves of the machine lead from a new journal, on a device whose disk satisfied `Fact`, to this state, in any phase: the journal runs, is
--- closed, or ended in a failure or a refusal. `shown` is the greatest transaction that was answered committed. Each direct write is of a
--- block that an operation writes directly.
+-- closed, or ended in a failure or a refusal. `shown` is the greatest acknowledged transaction. Each direct write is of a block that an
+-- operation writes directly.
 pub record IsEnded (Fact : Shape → Disk → Type 0) (operations : List Operation) (state : DeviceState) (sealed : History) (shown : Option ℕ) : Type 0 where
   pub opening : Disk
   pub fact : Fact state.shape opening

@@ -55,7 +55,7 @@ pub record PerformsAll {D : Type 0} (state : D → DeviceState) (honest : D → 
   pub performs : Performs state honest Last (take count operations) outcomes lines old new
   pub all : (count ≡ length operations) ⊎ EndsHere Last outcomes
 
--- the same from this start, with what is left: the device, the sealed transactions, and the greatest that was shown committed
+-- the same from this start, with what is left: the device, the sealed transactions, and the greatest acknowledged one
 pub record PerformsTo {D : Type 0} (state : D → DeviceState) (honest : D → Type 0) (start : Table D) (operations : List Operation) (after : AfterFailure)
     (device : D) (sealed : History) (shown : Option ℕ) (lines : List ℕ) : Type 0 where
   pub last : Table D

@@ -1,4 +1,4 @@
-//! The client of a journal: calls it, and records which transactions it was shown committed.
+//! The client of a journal: calls it, and records which transactions were acknowledged.
 ghost use Rattle.std.specs.Prelude.{◌≡◌, ◌+◌, ◌≤◌, length, IfErr, IfOk, MatchResult, OnOk};
 ghost use Rattle.journal_model.specs.declared.refusal.JournalError.TheVariants.{Memory};
 ghost use Rattle.journal_model.specs.Disk.{Disk, Shape};
@@ -50,12 +50,12 @@ impl HomeFact for ZeroHome {
     ghost holds = { IsZeroHome };
 }
 
-/// A journal, the operations that its client performs, and what it was shown committed.
+/// A journal, the operations that its client performs, and what was acknowledged.
 #[derive(Drop)]
 pub struct Client<'a, D: Device, H: HomeFact> {
     journal: Journal<D, Vec<Sealed>>,
     operations: &'a [Operation],
-    /// The greatest transaction that a wait or a status answered committed.
+    /// The greatest acknowledged transaction: a wait or a status answered that it is committed.
     acknowledged: Option<Tid>,
     of: PhantomData<H>,
 }
@@ -75,7 +75,7 @@ impl<'a, D: Device, H: HomeFact> Model for Client<'a, D, H> {
 pub struct Ended<D> {
     /// The device, and the sealed transactions.
     pub parts: Parts<D, Vec<Sealed>>,
-    /// The greatest transaction that was shown committed.
+    /// The greatest acknowledged transaction.
     pub acknowledged: Option<Tid>,
     /// Why it is not closed, if it is not.
     pub closed: Result<(), JournalError>,
@@ -389,7 +389,7 @@ impl<'a, D: Device + Drop, H: HomeFact> Client<'a, D, H> {
         };
     }
 
-    /// Ends the journal. Returns its device, the sealed transactions, and the greatest that was shown committed.
+    /// Ends the journal. Returns its device, the sealed transactions, and the greatest acknowledged one.
     pub fn finish(self) -> (Parts<D, Vec<Sealed>>, Option<Tid>)
         ensures led { D.honest result.0.device → IsLedTo H.holds self.entry.operations (D.state result.0.device) result.0.sealed.items result.1 }
         ensures left { IsLeftOf self.entry result.0.device result.0.sealed.items result.1 }

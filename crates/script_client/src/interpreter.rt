@@ -151,7 +151,7 @@ impl<'a, D: Device + Drop, H: HomeFact> Interpreter<'a, D, H> {
         self.client.is_aborted()
     }
 
-    /// Stops the open handles and ends the journal. Returns its device, the sealed transactions, and the greatest that was shown committed.
+    /// Stops the open handles and ends the journal. Returns its device, the sealed transactions, and the greatest acknowledged one.
     pub fn finish(self) -> (Parts<D, Vec<Sealed>>, Option<Tid>)
         ensures led { D.honest result.0.device → IsLedTo H.holds self.entry.client.operations (D.state result.0.device) result.0.sealed.items result.1 }
         ensures left { IsLeftOf self.entry.client result.0.device result.0.sealed.items result.1 }

@@ -48,7 +48,7 @@ pub struct Performed<D> {
     pub device: D,
     /// The sealed transactions, in order.
     pub sealed: Vec<Sealed>,
-    /// The greatest transaction that was shown committed.
+    /// The greatest acknowledged transaction.
     pub acknowledged: Option<Tid>,
 }
 

@@ -35,8 +35,8 @@ pub record IsCrashOf (device : MemState) (keep : List ℕ) (image : MemState) : 
   pub each : (a : Area) (n : ℕ) → (state_of image).disk a n ≡ record { reads = crashed keep device a n; others = [] }
   pub shape_is : image.shape ≡ device.shape
 
--- A device that was to stop at write `k` stopped there, with `k` its last write, or made fewer writes. Without such a write it stopped at
--- the end.
+-- A device that was to stop at write `k` stopped there, with `k` its last write, or made fewer writes, or `k` is 0. With no write named it
+-- stopped at the end.
 abbrev pub IsStoppedAtWrite : Option ℕ → Option ℕ → (writes : ℕ) → Type 0
 IsStoppedAtWrite None None writes = ⊤
 IsStoppedAtWrite None (Some at) writes = ⊥
@@ -67,8 +67,8 @@ pub record HasRunAnew (script : Script) (stop fail : Option ℕ) (device : MemSt
   pub run : HasRun opened script.operations.items (after_call fail) device sealed shown lines
 
 -- The end of a script's run. Moves of the machine lead from an empty log, on a home of zeros, to a device, the sealed transactions, and the
--- greatest one answered committed. Each operation up to the script's end has a line. The device stopped at the named write or at the end.
--- `image` is a crash image of it, and `named` has the blocks that the script names.
+-- greatest acknowledged one. Each operation up to the script's end has a line. The device stopped at the named write or at the end. `image`
+-- is a crash image of it, and `named` has the blocks that the script names.
 pub record IsEndOf (script : Script) (stop : Stop) (failing_call : Option ℕ) (image : MemState) (sealed : History) (shown : Option ℕ) (named : NamedBlocks) : Type 0 where
   pub device : MemState
   pub led : IsLedTo IsZeroHome script.operations.items (state_of device) sealed shown

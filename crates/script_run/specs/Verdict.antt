@@ -10,7 +10,7 @@ use Rattle.journal_model.specs.Transaction.{History, Volume, last_effect}
 use Rattle.block_device.specs.Memory.{MemState, crashed}
 use Rattle.journal_script.specs.declared.script.NamedBlocks.{NamedBlocks}
 
--- how many transactions are owed: those up to the greatest that was shown committed, if any
+-- how many transactions are owed: those up to the greatest acknowledged one, if any
 abbrev pub owed : Option ℕ → History → ℕ
 owed None ts = 0
 owed (Some tid) ts = acknowledged (tid ∷ []) ts

@@ -25,7 +25,7 @@ use std::collections::BTreeMap;
 pub struct Record {
     /// The sealed transactions, in order.
     pub sealed: Vec<Sealed>,
-    /// The greatest transaction that the run was shown committed.
+    /// The greatest transaction that was acknowledged.
     pub acknowledged: Option<Tid>,
 }
 
@@ -49,7 +49,7 @@ impl Record {
             .count()
     }
 
-    /// How many recorded transactions must be there: those up to the greatest shown committed.
+    /// How many recorded transactions must be there: those up to the greatest acknowledged one.
     fn count_acknowledged(&self) -> usize
         ensures { result ≡ owed self.now.acknowledged self.now.sealed.items }
     {

@@ -22,7 +22,7 @@ pub(crate) struct Interpreter<'j, J: JournalName, R: Wait> {
     journal: &'j Journal<J, RunDevice, Vec<Sealed>>,
     seat: Seat<J>,
     slots: Slots<'j, J>,
-    /// The greatest transaction that was shown committed.
+    /// The greatest acknowledged transaction.
     acknowledged: Option<Tid>,
 }
 
@@ -113,7 +113,7 @@ impl<'j, J: JournalName, R: Wait> Interpreter<'j, J, R> {
         }
     }
 
-    /// Stops the open handles. Returns the greatest transaction that was shown committed.
+    /// Stops the open handles. Returns the greatest acknowledged transaction.
     pub(crate) fn finish(self) -> Option<Tid> {
         let Interpreter {
             rt,

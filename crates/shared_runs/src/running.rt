@@ -177,7 +177,7 @@ fn done_by<J: JournalName, R: Wait>(
     })
 }
 
-/// Performs operations, prints a line for each, and stops the open handles. Returns the greatest transaction that was shown committed.
+/// Performs operations, prints a line for each, and stops the open handles. Returns the greatest acknowledged transaction.
 fn perform<J: JournalName, R: Wait>(
     rt: &R,
     alloc: Global,

@@ -1,8 +1,8 @@
 //! Rows of verdicts on records and devices made by hand, as a run never leaves them.
 //!
 //! A row has parts with `; ` between them: `2 writes 3 07` is a sealed transaction 2 in which block 3 becomes bytes 07; `acknowledged 2`
-//! the greatest transaction that was shown committed; `end 3` the end that an opening found; and `home 3 07` a named home block with these
-//! bytes. A block has 16 bytes.
+//! the greatest acknowledged transaction; `end 3` the end that an opening found; and `home 3 07` a named home block with these bytes. A
+//! block has 16 bytes.
 use block_device::{Device, MemDevice};
 use format_rows::RowError;
 use format_rows::words::{cut, hex_bytes, number, number32};
