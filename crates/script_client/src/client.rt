@@ -332,7 +332,7 @@ impl<'a, D: Device + Drop, H: HomeFact> Client<'a, D, H> {
         self.journal.mark()
     }
 
-    /// Whether a ticket's transaction is committed, which is then noted.
+    /// Whether a ticket's transaction is committed; if so, that is noted.
     pub fn status(&mut self, ticket: &Ticket) -> Status
         ensures status { StatusIs result ticket.now.tid self.old.journal.journal.front }
         ensures shown { IsShown result ticket.now.tid self.old self.new }
@@ -344,7 +344,7 @@ impl<'a, D: Device + Drop, H: HomeFact> Client<'a, D, H> {
         status
     }
 
-    /// Whether a receipt's transaction is committed, which is then noted again. It always is, if this journal gave the receipt.
+    /// Whether a receipt's transaction is committed, as it is if this journal gave the receipt; if so, that is noted again.
     pub fn confirm(&mut self, receipt: &Receipt) -> Status
         ensures status { StatusIs result receipt.now.tid self.old.journal.journal.front }
         ensures shown { IsShown result receipt.now.tid self.old self.new }
