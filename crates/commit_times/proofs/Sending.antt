@@ -1,5 +1,4 @@
--- What is handed to a client's thread may go there. It is said once, since a search over all of it, from a closure that holds a client,
--- comes to its limits.
+-- Lemmas: what a client's thread gets may go there. They stand apart, since a search over all of it at once comes to its limits.
 use denote.RattleType.{RattleType}
 use denote.Ref.{NamedLft}
 use denote.Param.Send.{IsSend, IsSync, sendable}

@@ -1,10 +1,10 @@
--- What a journal that was closed leaves of its device.
+-- What a closed journal leaves on its device.
 use Rattle.journal_model.specs.Disk.{Image, Leaves}
 use Rattle.journal_model.specs.Transaction.{History}
 use Rattle.block_device.specs.State.{DeviceState}
 use Rattle.log_epochs.specs.JournalPromise.{IsClosed}
 
--- some transactions were sealed: each image that a stop may leave of the device has a clean log, and opens to all of them
+-- for some sealed transactions, each crash image has a clean log and opens to all of them
 pub record IsLeftClosed (state : DeviceState) : Type 0 where
   pub sealed : History
   pub each : (image : Image) → Leaves state.disk image → IsClosed state.shape sealed image

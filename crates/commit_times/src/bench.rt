@@ -17,16 +17,16 @@ use std::io;
 use std::io::Write;
 use std::time::{Clock, Duration, Instant};
 
-/// The shares of 100 commits whose times stand in `COLUMNS`.
+/// The shares of 100 commits whose times are in `COLUMNS`.
 const SHARES: [u8; 9] = [1, 5, 10, 25, 50, 75, 90, 95, 99];
 
-/// The names of the values that `--csv` asks for.
+/// The names of the values of `--csv`.
 const COLUMNS: &str =
     "threads,blocks_each,transactions,commits,taken_ns,transactions_per_second,blocks_per_second,\
 commit_1of100_ns,commit_5of100_ns,commit_10of100_ns,commit_25of100_ns,commit_50of100_ns,commit_75of100_ns,commit_90of100_ns,\
 commit_95of100_ns,commit_99of100_ns,commit_greatest_ns,log_reads,log_writes,log_flushes,home_reads,home_writes,home_flushes";
 
-/// The seed of the places that are drawn.
+/// The seed of the drawn places.
 pub(crate) const SEED: u64 = 1;
 
 /// What was done, and how long it took.
@@ -38,7 +38,6 @@ pub(crate) struct Done {
 }
 
 impl Done {
-    /// Nothing.
     pub(crate) fn new(alloc: Global) -> Done {
         Done {
             tally: Tally::new(alloc),
@@ -46,7 +45,7 @@ impl Done {
         }
     }
 
-    /// This and what another client has done.
+    /// This and another client's work.
     ///
     /// # Errors
     ///
@@ -59,9 +58,9 @@ impl Done {
     }
 }
 
-/// Opens the log of a device, commits transactions one by one as the words tell, each with the given number of copies, and closes the journal; then
-/// prints how many there were and how many a second, how long their commits took, and which calls the device got. `watch` is told of each
-/// second. The device comes back where all was done, and its journal is closed. Else one line on `err` says why it was not.
+/// Opens the log of a device, commits transactions one by one as the words say, each of the given number of copies, and closes the journal.
+/// Prints how many transactions there were and how many per second, how long commits took, and the device's calls. Notifies `watch` each
+/// second. The device comes back if all was done; its journal is then closed. Else one line on `err` says why.
 ///
 /// # Errors
 ///
@@ -88,7 +87,6 @@ pub fn bench<D: Device + Drop, C: Clock, H: Watch + Drop, W: Write + Drop, E: Wr
     }
 }
 
-/// Does the transactions, and says what they took.
 fn do_and_say<D: Device + Drop, C: Clock, H: Watch, W: Write>(
     alloc: Global,
     words: &BenchWords<'_>,
@@ -107,7 +105,6 @@ fn do_and_say<D: Device + Drop, C: Clock, H: Watch, W: Write>(
     Ok(device.into_device())
 }
 
-/// A journal on the log of a device.
 fn open<D: Device + Drop>(alloc: Global, device: D) -> Result<Work<D>, JournalError> {
     match recovery::open(alloc, device) {
         Ok(opened) => new_work(alloc, opened),
@@ -115,17 +112,14 @@ fn open<D: Device + Drop>(alloc: Global, device: D) -> Result<Work<D>, JournalEr
     }
 }
 
-/// A journal on an opened log.
 fn new_work<D: Device + Drop>(alloc: Global, opened: Opened<D>) -> Result<Work<D>, JournalError> {
     Work::new(alloc, opened)
 }
 
-/// The time of the clock, from its own start.
 fn now<C: Clock>(clock: &C) -> Result<Instant, Fault> {
     Instant::now(clock).map_err(Fault::of_clock)
 }
 
-/// The work under way.
 #[derive(Drop)]
 struct Run<D: Device> {
     work: Work<D>,
@@ -137,7 +131,7 @@ struct Run<D: Device> {
 }
 
 impl<D: Device + Drop> Run<D> {
-    /// Commits the next transaction. The receipt of its handle comes back: it is durable.
+    /// Commits the next transaction, and times it. Returns its receipt.
     fn commit<C: Clock>(&mut self, plan: &mut Plan, clock: &C) -> Result<Receipt, Fault>
         ensures { IfOk result (λ receipt. receipt.tid ≤ self.new.work.journal.journal.front.mark) }
     {
@@ -148,7 +142,7 @@ impl<D: Device + Drop> Run<D> {
         Ok(receipt)
     }
 
-    /// Notes a commit that was asked for and came at these times.
+    /// Notes a commit by the times of its request and its end.
     fn note(&mut self, asked: Instant, committed: Instant) -> Result<(), Fault>
         ensures { self.new.work ≡ self.old.work }
     {
@@ -158,7 +152,6 @@ impl<D: Device + Drop> Run<D> {
     }
 }
 
-/// Does transactions until there are as many as the words tell, or the time is over, and closes the journal.
 fn do_all<D: Device + Drop, C: Clock, H: Watch>(
     alloc: Global,
     words: &BenchWords<'_>,
@@ -174,7 +167,6 @@ fn do_all<D: Device + Drop, C: Clock, H: Watch>(
     end(run)
 }
 
-/// The work that begins now.
 fn begin<D: Device + Drop, C: Clock>(
     alloc: Global,
     work: Work<D>,
@@ -191,7 +183,6 @@ fn begin<D: Device + Drop, C: Clock>(
     }
 }
 
-/// Does transactions until there are as many as the words tell, or the time is over.
 fn do_transactions<D: Device + Drop, C: Clock, H: Watch>(
     run: &mut Run<D>,
     words: &BenchWords<'_>,
@@ -208,7 +199,6 @@ fn do_transactions<D: Device + Drop, C: Clock, H: Watch>(
     Ok(())
 }
 
-/// Does one more transaction.
 fn one_more<D: Device + Drop, C: Clock, H: Watch>(
     run: &mut Run<D>,
     plan: &mut Plan,
@@ -227,7 +217,6 @@ fn one_more<D: Device + Drop, C: Clock, H: Watch>(
     Ok(())
 }
 
-/// Closes the journal.
 fn end<D: Device + Drop>(run: Run<D>) -> Result<(Done, D), Fault>
     ensures { IfOk result (λ ended. D.honest ended.1 → IsLeftClosed (D.state ended.1)) }
 {
@@ -241,17 +230,15 @@ fn end<D: Device + Drop>(run: Run<D>) -> Result<(Done, D), Fault>
     Ok((Done { tally, taken }, device))
 }
 
-/// Whether a time that has an end is over.
 fn is_over(taken: Duration, most: Option<Duration>) -> bool {
     most.is_some_and(|most| taken >= most)
 }
 
-/// How many a second, where there were so many in this time.
 fn a_second(count: u64, taken: Duration) -> u128 {
     u128::from(count) * 1_000_000_000 / taken.as_nanos().max(1)
 }
 
-/// Says what the transactions took, in so many commits, and which calls the device got, as the words tell.
+/// Prints the results as the words say.
 pub(crate) fn say<D, W: Write>(
     words: &BenchWords<'_>,
     done: Done,
@@ -266,7 +253,6 @@ pub(crate) fn say<D, W: Write>(
     }
 }
 
-/// Says it in two lines, the names of the columns and their values.
 fn say_values<D, W: Write>(
     words: &BenchWords<'_>,
     done: Done,
@@ -297,7 +283,7 @@ fn say_values<D, W: Write>(
     Ok(())
 }
 
-/// Says which times shares of the commits did not exceed, and the greatest, each behind a comma.
+/// Prints the times that shares of the commits did not exceed, and the greatest, each after a comma.
 fn say_shares<W: Write>(ranked: &Ranked, out: &mut W) -> io::Result<()> {
     for share in SHARES {
         write!(out, ",{}", ranked.of_hundred(share))?;
@@ -305,7 +291,6 @@ fn say_shares<W: Write>(ranked: &Ranked, out: &mut W) -> io::Result<()> {
     write!(out, ",{}", ranked.greatest())
 }
 
-/// Says it in lines that are read by people.
 fn say_lines<D, W: Write>(
     words: &BenchWords<'_>,
     done: Done,
@@ -328,7 +313,6 @@ fn say_lines<D, W: Write>(
     Ok(())
 }
 
-/// Says how long the commits took.
 fn say_latency<W: Write>(ranked: &Ranked, out: &mut W) -> io::Result<()> {
     writeln!(
         out,
@@ -339,7 +323,6 @@ fn say_latency<W: Write>(ranked: &Ranked, out: &mut W) -> io::Result<()> {
     )
 }
 
-/// Says which calls an area got.
 fn say_calls<W: Write>(area: &str, calls: Calls, out: &mut W) -> io::Result<()> {
     writeln!(
         out,

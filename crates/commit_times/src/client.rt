@@ -1,4 +1,4 @@
-//! A client: one thread with a seat of its own, which makes one durable change after the other.
+//! A client: one thread with a slot in the credit table, which makes one durable change after another.
 ghost use Rattle.std.specs.Prelude.{◌≤◌, IfOk};
 
 use crate::bench::Done;
@@ -20,32 +20,32 @@ use std::time::{Clock, Duration, Instant};
 /// What all clients share.
 #[derive(Drop)]
 pub(crate) struct Shared<'s, J: JournalName, D: Device, C> {
-    /// What tells the time.
+    /// The clock.
     pub(crate) clock: &'s C,
     /// The journal.
     pub(crate) journal: &'s Journal<J, D>,
-    /// Who has it takes the turns.
+    /// Its holder takes the turns.
     pub(crate) turns: Mutex<Rounds>,
     /// What the others wait for.
     pub(crate) events: Events,
-    /// Who has it makes a change.
+    /// Its holder makes a change.
     pub(crate) changes: Mutex<()>,
     /// When the work began.
     pub(crate) begun: Instant,
-    /// The most transactions, all clients together.
+    /// The most transactions of all clients.
     pub(crate) most: u64,
-    /// The time behind which no further transaction is begun, where there is one.
+    /// After this time no transaction begins, if it is given.
     pub(crate) most_time: Option<Duration>,
-    /// How many transactions were begun, or refused because there were enough.
+    /// How many transactions were begun, or refused since there were enough.
     pub(crate) started: AtomicU64,
     /// How many are durable.
     pub(crate) durable: AtomicU64,
-    /// 1 once a client has met a refusal: the others end too.
+    /// 1 once a client was refused something: the others end too.
     pub(crate) refused: AtomicU64,
 }
 
 impl<'s, J: JournalName, D: Device, C> Shared<'s, J, D, C> {
-    /// What clients share that begin now.
+    /// The shared part of clients that begin now.
     pub(crate) fn new(
         clock: &'s C,
         journal: &'s Journal<J, D>,
@@ -67,8 +67,8 @@ impl<'s, J: JournalName, D: Device, C> Shared<'s, J, D, C> {
         }
     }
 
-    /// Waits until no other client makes a change. A change takes a few microseconds, and each of its calls takes the journal's lock, for
-    /// which who finds it taken sleeps soon: a sleep and a wake take longer than all changes of a commit one behind the other.
+    /// Waits until no other client makes a change. A change takes a few microseconds, but each of its calls takes the journal's lock, and a
+    /// thread that finds it taken soon sleeps: a sleep and a wake take longer than all changes of a commit in sequence.
     pub(crate) fn alone<W: Wait>(&self, rt: &W) -> MutexGuard<'_, ()> {
         for _ in 0..LOOKS {
             if let Some(guard) = self.changes.try_lock() {
@@ -79,7 +79,7 @@ impl<'s, J: JournalName, D: Device, C> Shared<'s, J, D, C> {
         self.changes.lock(rt)
     }
 
-    /// No client begins a further transaction.
+    /// Lets no client begin another transaction.
     pub(crate) fn end(&self) {
         self.refused.store(1, Ordering::SeqCst);
     }
@@ -88,9 +88,9 @@ impl<'s, J: JournalName, D: Device, C> Shared<'s, J, D, C> {
 /// A client.
 #[derive(Drop)]
 pub(crate) struct Client<'s, J: JournalName, D: Device, C> {
-    /// What all share.
+    /// What all clients share.
     pub(crate) shared: &'s Shared<'s, J, D, C>,
-    /// Its own seat.
+    /// Its own slot.
     pub(crate) seat: Seat<J>,
     /// What it writes.
     pub(crate) plan: Plan,
@@ -101,7 +101,6 @@ pub(crate) struct Client<'s, J: JournalName, D: Device, C> {
 }
 
 impl<'s, J: JournalName, D: Device, C: Clock> Client<'s, J, D, C> {
-    /// A client that has done nothing yet.
     pub(crate) fn new(
         alloc: Global,
         shared: &'s Shared<'s, J, D, C>,
@@ -117,12 +116,12 @@ impl<'s, J: JournalName, D: Device, C: Clock> Client<'s, J, D, C> {
         }
     }
 
-    /// Makes durable changes until there are as many as are wanted, or the time is over, or a client was refused something.
+    /// Makes durable changes until there are enough, the time is over, or a client was refused something.
     ///
     /// # Errors
     ///
-    /// The clock can't be read; memory ran out; those of a start, a write, a commit turn and a checkpoint turn. No handle is left
-    /// open, and the other clients end too.
+    /// The clock can't be read; memory ran out; those of a start, a write, a commit turn and a checkpoint turn. No handle is left open, and
+    /// the other clients end too.
     pub(crate) fn run<W: Wait>(self, rt: &W) -> Result<Done, Fault> {
         let mut client = self;
         for _ in rt.forever() {
@@ -134,7 +133,6 @@ impl<'s, J: JournalName, D: Device, C: Clock> Client<'s, J, D, C> {
         Ok(client.into_done())
     }
 
-    /// What it has done.
     pub(crate) fn into_done(self) -> Done {
         let Client {
             shared: _,
@@ -146,7 +144,7 @@ impl<'s, J: JournalName, D: Device, C: Clock> Client<'s, J, D, C> {
         done
     }
 
-    /// Whether it is to begin no further transaction. Where it is not, one is counted as begun.
+    /// Whether it must begin no other transaction; if it may, one is counted as begun.
     pub(crate) fn is_over(&self) -> bool {
         let late = self
             .shared
@@ -156,7 +154,7 @@ impl<'s, J: JournalName, D: Device, C: Clock> Client<'s, J, D, C> {
             || self.shared.started.fetch_add(1, Ordering::SeqCst) >= self.shared.most
     }
 
-    /// Makes a durable change, and notes how long its commit took.
+    /// Makes a durable change and times its commit; after a failure all clients end.
     pub(crate) fn one_more<W: Wait>(&mut self, rt: &W) -> Result<(), Fault> {
         match self.timed(rt) {
             Ok(_) => {
@@ -170,7 +168,6 @@ impl<'s, J: JournalName, D: Device, C: Clock> Client<'s, J, D, C> {
         }
     }
 
-    /// Makes a durable change, and notes how long its commit took. Its receipt comes back: it is durable.
     fn timed<W: Wait>(&mut self, rt: &W) -> Result<Receipt<J>, Fault>
         ensures { IfOk result (λ receipt. receipt.ticket.tid ≤ receipt.ticket.seen) }
     {
@@ -182,14 +179,13 @@ impl<'s, J: JournalName, D: Device, C: Clock> Client<'s, J, D, C> {
         Ok(receipt)
     }
 
-    /// Notes a commit that was asked for and came at these times.
     fn note(&mut self, asked: Instant, committed: Instant) -> Result<(), Fault> {
         self.done.tally.add(committed.duration_since(asked))?;
         self.done.taken = committed.duration_since(self.shared.begun);
         Ok(())
     }
 
-    /// Writes the blocks of the next transaction through one handle, which stops then, also where a write is refused.
+    /// Writes the next transaction's blocks through one handle, and stops that, also after a refusal.
     fn change<W: Wait>(&mut self, rt: &W) -> Result<Ticket<J>, JournalError> {
         let (mut handle, alone) = self.start(rt)?;
         let written = self.write_all(rt, &mut handle);
@@ -200,8 +196,8 @@ impl<'s, J: JournalName, D: Device, C: Clock> Client<'s, J, D, C> {
         Ok(ticket)
     }
 
-    /// A handle with as many credits as it is to write blocks, while no other client makes a change. It waits while the running
-    /// transaction takes no handles, and while others hold the credits; where nobody takes turns then, it does.
+    /// A handle with credits for its blocks, while no other client makes a change. Waits while the running transaction takes no handles,
+    /// and while others hold the credits; if nobody takes turns then, it does.
     fn start<W: Wait>(
         &mut self,
         rt: &W,
@@ -226,7 +222,6 @@ impl<'s, J: JournalName, D: Device, C: Clock> Client<'s, J, D, C> {
         unreachable!()
     }
 
-    /// Writes the blocks of a transaction.
     fn write_all<W: Wait>(
         &mut self,
         rt: &W,
@@ -239,7 +234,6 @@ impl<'s, J: JournalName, D: Device, C: Clock> Client<'s, J, D, C> {
         Ok(())
     }
 
-    /// Writes a block that is filled with one byte.
     fn write<W: Wait>(
         &mut self,
         rt: &W,
@@ -252,7 +246,7 @@ impl<'s, J: JournalName, D: Device, C: Clock> Client<'s, J, D, C> {
         self.shared.journal.write(rt, handle, block, &self.bytes)
     }
 
-    /// Waits until a ticket's transaction is committed. Who finds that nobody takes turns takes them.
+    /// Waits until a ticket's transaction is committed; if nobody takes turns, it does.
     fn wait<W: Wait>(&mut self, rt: &W, ticket: Ticket<J>) -> Result<Receipt<J>, JournalError>
         ensures { IfOk result (λ receipt. receipt.ticket.tid ≤ receipt.ticket.seen) }
     {

@@ -5,7 +5,7 @@ ghost use Rattle.commit_times.specs.Counting.{calls_on, sum_of, with_call};
 use block_device::{Device, DeviceFault};
 use journal_model::Area;
 
-/// How often an area was called, by the kind of call.
+/// The calls on an area, by kind.
 #[derive(Clone, Copy)]
 pub(crate) struct Calls {
     /// Reads of one block.
@@ -16,24 +16,19 @@ pub(crate) struct Calls {
     pub(crate) flushes: u64,
 }
 
-/// No calls.
 const NONE: Calls = Calls {
     reads: 0,
     writes: 0,
     flushes: 0,
 };
 
-/// A read.
 const READ: Calls = Calls { reads: 1, ..NONE };
 
-/// A write.
 const WRITE: Calls = Calls { writes: 1, ..NONE };
 
-/// A flush.
 const FLUSH: Calls = Calls { flushes: 1, ..NONE };
 
 impl Calls {
-    /// These and others.
     fn plus(self, others: Calls) -> Calls
         ensures { result ≡ sum_of self others }
     {
@@ -45,7 +40,7 @@ impl Calls {
     }
 }
 
-/// A device each of whose calls is one of the device behind it, and is counted.
+/// A device that makes each call on the one inside it, and counts it.
 #[derive(Drop)]
 pub(crate) struct Counted<D> {
     device: D,
@@ -65,7 +60,7 @@ impl<D> Counted<D> {
         }
     }
 
-    /// The device behind it.
+    /// The device inside.
     pub(crate) fn into_device(self) -> D
         ensures { result ≡ self.device }
     {
@@ -87,7 +82,6 @@ impl<D> Counted<D> {
         }
     }
 
-    /// Counts a call on an area.
     fn count(&mut self, area: Area, call: Calls)
         ensures counts { self.new ≡ with_call area call self.old }
         ensures device { self.new.device ≡ self.old.device }

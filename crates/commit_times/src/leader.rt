@@ -1,4 +1,4 @@
-//! The client that takes the turns of all who wait.
+//! The leader: the client that takes the turns for all that wait.
 use crate::spin;
 use block_device::Device;
 use event_counter::EventCounter;
@@ -18,7 +18,6 @@ pub(crate) struct Events {
 }
 
 impl Events {
-    /// None yet.
     pub(crate) fn new() -> Events {
         Events {
             committed: EventCounter::new(),
@@ -28,25 +27,24 @@ impl Events {
     }
 }
 
-/// Where the rounds are, and how many handles the next transaction waits for. It is known to the leader alone.
+/// The state of checkpoint rounds, and how many handles the next commit waits for; for the leader alone.
 #[derive(Clone, Copy)]
 pub(crate) struct Rounds {
     /// How many commit steps were taken since the last round began.
     steps: u64,
     /// A round has begun and is not over.
     under_way: bool,
-    /// How many of its steps are to be taken before the next commit.
+    /// How many of its steps are due before the next commit.
     part: u64,
-    /// How many handles had stopped when a transaction was locked last.
+    /// How many handles had stopped at the last lock of a transaction.
     locked_at: u64,
-    /// About how many of these had joined that transaction: those that stopped since the lock before it.
+    /// About how many of these had joined that transaction: those that stopped since the lock before.
     group: u64,
-    /// How many will have stopped once each client of that transaction has stopped a further one.
+    /// How many will have stopped once each client of that transaction has stopped another one.
     awaited: u64,
 }
 
 impl Rounds {
-    /// No round was made.
     pub(crate) fn new() -> Rounds {
         Rounds {
             steps: 0,
@@ -58,18 +56,18 @@ impl Rounds {
         }
     }
 
-    /// The running transaction is locked, once so many handles have stopped.
+    /// The running transaction is locked, after this many handles have stopped.
     fn lock(&mut self, stopped: u64) {
         self.group = stopped.saturating_sub(self.locked_at);
         self.locked_at = stopped;
     }
 
-    /// It is committed, once so many have: those behind the lock are of the next one.
+    /// It is committed, after this many have; those that stopped after the lock belong to the next one.
     fn await_group(&mut self, stopped: u64) {
         self.awaited = stopped.saturating_add(self.group);
     }
 
-    /// A round begins, where none is under way.
+    /// Begins a round, unless one is under way.
     fn begin(&mut self) {
         if !self.under_way {
             self.steps = 0;
@@ -77,14 +75,13 @@ impl Rounds {
         }
     }
 
-    /// The round is over.
     fn end(&mut self) {
         self.under_way = false;
     }
 
-    /// Notes a commit of so many steps. A part of a round, of as many, is to follow where one is under way, or half of the ring may be
-    /// taken, so that one begins. A transaction takes a quarter of the ring at most, and its credits are about as many blocks; each
-    /// block of the ring takes a step.
+    /// Notes a commit of this many steps. If a round is under way, a part of it with as many steps comes next. A round begins if half of
+    /// the ring may be taken: a transaction takes at most a quarter, its credits are about as many blocks, and each ring block takes a
+    /// step.
     fn note(&mut self, steps: u64, capacity: u64) {
         self.steps = self.steps.saturating_add(steps);
         if self.steps / 2 >= capacity {
@@ -93,7 +90,7 @@ impl Rounds {
         self.part = if self.under_way { steps } else { 0 };
     }
 
-    /// How many steps of a round are to be taken now.
+    /// How many steps of a round are due now.
     fn take_part(&mut self) -> u64 {
         let part = self.part;
         self.part = 0;
@@ -101,12 +98,12 @@ impl Rounds {
     }
 }
 
-/// Commits the running transaction for all who have joined it, where nobody else takes turns: answers false where somebody does.
-/// Handles that join while it is committed are committed with the next one.
+/// Commits the running transaction for all handles that have joined it; false if another client takes turns. Handles that join during the
+/// commit belong to the next one.
 ///
 /// # Errors
 ///
-/// Those of a commit turn and of a checkpoint turn; `NeedSpace` where the ring has no room though all is home.
+/// Those of a commit turn and of a checkpoint turn. `NeedSpace`: the ring has no room though all is home.
 pub(crate) fn lead<J: JournalName, D: Device, W: Wait>(
     rt: &W,
     journal: &Journal<J, D>,
@@ -124,11 +121,11 @@ pub(crate) fn lead<J: JournalName, D: Device, W: Wait>(
     Ok(true)
 }
 
-/// Takes a part of a round, lets all who were in the last commit join again, and commits the running transaction.
+/// Takes a part of a round, lets all clients of the last commit join again, and commits the running transaction.
 ///
-/// jbd2 waits too: a handle that is to be durable lets others join for about as long as a commit takes on average, where the last such
-/// handle was another thread's. Here the wait is over once each client of the last commit has stopped a further handle, and after a short
-/// while in any case. So commits do not alternate between all handles but one and that one, which comes back before the others have woken.
+/// jbd2 waits too: a handle that must become durable lets others join for about the average time of a commit, if the last such handle was
+/// another thread's. Here the wait ends once each client of the last commit has stopped another handle, and soon in any case. Without it,
+/// commits would alternate between all handles but one and that one, which comes back before the others have woken.
 /// Source: fs/jbd2/transaction.c by behaviour (`jbd2_journal_stop`, `j_average_commit_time`).
 fn commit<J: JournalName, D: Device, W: Wait>(
     rt: &W,
@@ -160,9 +157,9 @@ fn commit<J: JournalName, D: Device, W: Wait>(
     Ok(())
 }
 
-/// Takes a part of a round before a commit, of as many steps as the last commit had, where one is due. A round writes no more blocks than
-/// the ring had taken when it began, so it is over when about as many again are: no commit waits for the whole of one. Others who were in
-/// the last commit make their next changes meanwhile.
+/// Takes the due part of a round, with as many steps as the last commit had. A round writes no more blocks than the ring had taken when it
+/// began, so it is over when about as many more are taken: no commit waits for a whole round. Meanwhile other clients make their next
+/// changes.
 fn keep_room<J: JournalName, D: Device, W: Wait>(
     rt: &W,
     journal: &Journal<J, D>,

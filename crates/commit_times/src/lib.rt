@@ -1,8 +1,4 @@
-//! The command `bench` of the program `jbench`: durable transactions on the log of a device, for so long or so many, and what they
-//! took.
-//!
-//! `work` does the transactions, `counted` is a device that counts its calls by kind, `tally` keeps how long the commits took, and
-//! `bench` does the command and prints.
+//! The command `bench` of the program `jbench`: durable transactions on the log of a device, for a time or a count, and their times.
 #![tactic(auto)]
 
 pub mod bench;

@@ -1,13 +1,13 @@
-//! What a thread does before it sleeps: it looks again for a short while.
+//! Lets a thread look again for a short while before it sleeps.
 use event_counter::EventCounter;
 use std::sync::Wait;
 use std::thread;
 
-/// How often who waits looks again before it sleeps. It lets another thread run after each look, so that this takes some two hundred
-/// microseconds: longer than a commit where a sync costs nothing, and about as long as one on a fast disk.
+/// How often a waiting thread looks, and yields, before it sleeps: some two hundred microseconds, longer than a commit whose sync costs
+/// nothing, and about as long as one on a fast disk.
 pub(crate) const LOOKS: u32 = 200;
 
-/// Looks for a short while until there were so many events.
+/// Looks for a short while until there were this many events.
 pub(crate) fn look_for(events: &EventCounter, count: u64) {
     for _ in 0..LOOKS {
         if events.count() >= count {
@@ -17,7 +17,7 @@ pub(crate) fn look_for(events: &EventCounter, count: u64) {
     }
 }
 
-/// Waits for one event more than were seen: looks for a short while, and sleeps then. It may also return for no reason.
+/// Waits for one more event than were seen: looks for a short while, and then sleeps. It may also return for no reason.
 pub(crate) fn wait<W: Wait>(rt: &W, events: &EventCounter, seen: u32) {
     for _ in 0..LOOKS {
         if events.seen() != seen {

@@ -1,25 +1,24 @@
-//! How long commits took.
+//! Keeps how long commits took.
 ghost use Rattle.std.specs.Prelude.{◌≡◌};
 
 use journal_model::JournalError;
 use std::alloc::{AllocFailed, Global};
 use std::time::Duration;
 
-/// How long each commit took, in nanoseconds.
+/// The time of each commit, in nanoseconds.
 #[derive(Drop)]
 pub(crate) struct Tally {
     nanoseconds: Vec<u64>,
 }
 
 impl Tally {
-    /// No commits.
     pub(crate) fn new(alloc: Global) -> Self {
         Tally {
             nanoseconds: Vec::new(alloc),
         }
     }
 
-    /// One more commit, which took this long.
+    /// Adds a commit that took this long.
     ///
     /// # Errors
     ///
@@ -29,7 +28,7 @@ impl Tally {
         self.nanoseconds.push(nanoseconds)
     }
 
-    /// These commits too.
+    /// Adds these commits.
     ///
     /// # Errors
     ///
@@ -44,7 +43,7 @@ impl Tally {
         self.nanoseconds.len() as u64
     }
 
-    /// The tally in the order of its times.
+    /// The tally, sorted by time.
     pub(crate) fn into_ranked(self) -> Ranked {
         let mut nanoseconds = self.nanoseconds;
         nanoseconds.sort_unstable();
@@ -52,14 +51,14 @@ impl Tally {
     }
 }
 
-/// How long each commit took, in nanoseconds, the shortest time first.
+/// The time of each commit, in nanoseconds, the shortest first.
 #[derive(Drop)]
 pub(crate) struct Ranked {
     nanoseconds: Vec<u64>,
 }
 
 impl Ranked {
-    /// The shortest time that so many of 100 commits did not exceed, or 0 where there were none.
+    /// The shortest time that `share` of 100 commits did not exceed; 0 without commits.
     pub(crate) fn of_hundred(&self, share: u8) -> u64 {
         let commits = self.nanoseconds.len() as u128;
         let rank = (commits * u128::from(share)).div_ceil(100);
@@ -70,7 +69,7 @@ impl Ranked {
         }
     }
 
-    /// The greatest time, or 0 where there were no commits.
+    /// The greatest time; 0 without commits.
     pub(crate) fn greatest(&self) -> u64 {
         self.nanoseconds.last().copied().unwrap_or(0)
     }

@@ -22,10 +22,9 @@ use std::thread::{JoinHandle, Scope, Threads};
 use std::time::Clock;
 use std::{io, thread};
 
-/// Opens the log of a device, lets so many clients commit changes as the words tell, each through one handle with the given number of
-/// copies at a time, and closes the journal; then prints what `bench::bench` prints, and how many handles a commit had. One of the
-/// clients works in the thread of the caller, the others in threads of their own. `watch` is told of each second.
-/// The device comes back where all was done, and its journal is closed. Else one line on `err` says why it was not.
+/// Opens the log of a device, lets this many clients commit changes as the words say, each through one handle of the given number of copies
+/// at a time, and closes the journal. Prints what `bench::bench` prints, and how many handles a commit had. One client works in the
+/// caller's thread, the others in threads of their own. `watch`, the device and `err` are as for `bench::bench`.
 ///
 /// # Errors
 ///
@@ -63,7 +62,6 @@ pub fn bench<
     }
 }
 
-/// Does the transactions, and says what they took.
 fn do_and_say<
     D: Device + Send + Drop,
     R: Threads + Wait + Sync,
@@ -95,7 +93,6 @@ fn do_and_say<
     Ok(device.into_device())
 }
 
-/// What each client writes.
 fn plans(alloc: Global, copies: u64, home_blocks: u64, clients: u64) -> Result<Vec<Plan>, Fault> {
     let mut plans = Vec::new(alloc);
     for number in 0..clients {
@@ -104,7 +101,6 @@ fn plans(alloc: Global, copies: u64, home_blocks: u64, clients: u64) -> Result<V
     Ok(plans)
 }
 
-/// A journal for threads on the log of a device. It has no name yet.
 fn lay_on<D: Device + Drop>(alloc: Global, device: D) -> Result<LaidJournal<D>, JournalError> {
     match recovery::open(alloc, device) {
         Ok(opened) => match lay(alloc, opened) {
@@ -115,7 +111,7 @@ fn lay_on<D: Device + Drop>(alloc: Global, device: D) -> Result<LaidJournal<D>, 
     }
 }
 
-/// Gives the journal a name, lets the clients work, and closes it. Whoever calls this picks the name.
+/// Names the journal, lets the clients work, and closes it. The caller picks the name.
 fn do_all<
     J: JournalName + Send + Sync,
     D: Device + Send + Drop,
@@ -141,7 +137,7 @@ fn do_all<
     Ok((done, commits, closed?))
 }
 
-/// Lets the clients work. What they have done comes back, and in how many commits.
+/// Lets the clients work. Returns what they have done, and in how many commits.
 fn work<
     J: JournalName + Send + Sync,
     D: Device + Send,
@@ -169,7 +165,7 @@ fn work<
     Ok((done, u64::from(after.0.saturating_sub(before.0))))
 }
 
-/// As many seats as are wanted, of allotments that differ by few; fewer where no further seat can be split off.
+/// Splits a caller's slot in the credit table into as many as wanted, of nearly equal allotments; fewer if no more can be split off.
 fn seats<J: JournalName, D: Device>(
     alloc: Global,
     journal: &Journal<J, D>,
@@ -189,7 +185,6 @@ fn seats<J: JournalName, D: Device>(
     Ok(seats)
 }
 
-/// Runs the clients.
 fn run_all<
     's,
     J: JournalName + Send + Sync,
@@ -242,7 +237,6 @@ fn run_in<
     }
 }
 
-/// The clients, each with a seat and a plan of its own.
 fn clients<'s, J: JournalName, D: Device, C: Clock>(
     alloc: Global,
     shared: &'s Shared<'s, J, D, C>,
@@ -260,7 +254,6 @@ fn clients<'s, J: JournalName, D: Device, C: Clock>(
     Ok(clients)
 }
 
-/// Starts a thread for each client.
 fn start_all<
     's,
     E,
@@ -284,7 +277,6 @@ fn start_all<
     Ok(running)
 }
 
-/// Starts a thread for a client.
 fn start_client<
     's,
     E,
@@ -303,7 +295,7 @@ fn start_client<
     }
 }
 
-/// Lets a client work in this thread, and tells of each second.
+/// Lets a client work in this thread, and notifies `watch` each second.
 fn run_watched<'s, J: JournalName, D: Device, R: Wait, C: Clock, H: Watch>(
     rt: &R,
     client: Client<'s, J, D, C>,
@@ -327,7 +319,7 @@ fn run_watched<'s, J: JournalName, D: Device, R: Wait, C: Clock, H: Watch>(
     Ok(client.into_done())
 }
 
-/// Joins all threads: what they and this one have done.
+/// Joins all threads. Returns what they and this one have done.
 fn join_all<R: Threads>(
     rt: &R,
     mine: Result<Done, Fault>,
@@ -340,7 +332,7 @@ fn join_all<R: Threads>(
     done
 }
 
-/// What two clients have done, or why one of them could not go on: that the journal is aborted is the last cause that is told.
+/// What two clients have done, or why one of them could not go on; another cause is preferred to `Aborted`.
 fn both(one: Result<Done, Fault>, other: Result<Done, Fault>) -> Result<Done, Fault> {
     match (one, other) {
         (Ok(one), Ok(other)) => Ok(one.and(other)?),
@@ -349,7 +341,6 @@ fn both(one: Result<Done, Fault>, other: Result<Done, Fault>) -> Result<Done, Fa
     }
 }
 
-/// Says how many commits there were, and how many handles each had.
 fn say_commits<W: Write>(commits: u64, handles: u64, out: &mut W) -> Result<(), Fault> {
     let hundredths = u128::from(handles) * 100 / u128::from(commits.max(1));
     writeln!(

@@ -10,7 +10,7 @@ use rand_xoshiro::Xoshiro256PlusPlus;
 use recovery::Opened;
 use std::alloc::Global;
 
-/// What each transaction writes: one block, at a place that is drawn, in each of as many parts of the home area as it has copies.
+/// What each transaction writes: one block at a drawn place in each of as many parts of home as it has copies.
 #[derive(Drop)]
 pub(crate) struct Plan {
     copies: u64,
@@ -20,11 +20,11 @@ pub(crate) struct Plan {
 }
 
 impl Plan {
-    /// Transactions of so many blocks of a home area that has this many, at places that are drawn from a seed.
+    /// Plans transactions of `copies` blocks of this home area, at places drawn from a seed.
     ///
     /// # Errors
     ///
-    /// `TooMany` where it has fewer.
+    /// `TooMany`: home has fewer blocks.
     pub(crate) fn new(copies: u64, home_blocks: u64, seed: u64) -> Result<Plan, JournalError> {
         match home_blocks.checked_div(copies) {
             Some(part) if part > 0 => Ok(Plan {
@@ -41,7 +41,7 @@ impl Plan {
         self.copies
     }
 
-    /// The block that is written in this part, and the byte that fills it.
+    /// The next block in this part, and the byte that fills it.
     pub(crate) fn draw(&mut self, number: u64) -> (BlockNo, u8) {
         let drawn = self.generator.next_u64();
         let place = drawn.checked_rem(self.part).unwrap_or(0);
@@ -60,7 +60,7 @@ pub(crate) struct Work<D: Device> {
 }
 
 impl<D: Device + Drop> Work<D> {
-    /// A journal on an opened log.
+    /// Makes a journal on an opened log.
     ///
     /// # Errors
     ///
@@ -75,11 +75,11 @@ impl<D: Device + Drop> Work<D> {
         }
     }
 
-    /// Writes the blocks of the next transaction through one handle, which stops then.
+    /// Writes the blocks of the next transaction through one handle, and stops that.
     ///
     /// # Errors
     ///
-    /// Those of a reserve, a join and a write: `TooMany` where a transaction can't have so many blocks.
+    /// Those of a start and a write. `TooMany`: a transaction can't have so many blocks.
     pub(crate) fn change(&mut self, plan: &mut Plan) -> Result<Ticket, JournalError> {
         let mut handle = self.journal.try_start(plan.copies)?;
         let written = self.write_all(&mut handle, plan);
@@ -90,7 +90,6 @@ impl<D: Device + Drop> Work<D> {
         }
     }
 
-    /// Writes the blocks of the next transaction.
     fn write_all(&mut self, handle: &mut Handle, plan: &mut Plan) -> Result<(), JournalError> {
         for number in 0..plan.copies {
             let (block, fill) = plan.draw(number);
@@ -99,14 +98,13 @@ impl<D: Device + Drop> Work<D> {
         Ok(())
     }
 
-    /// Writes a block that is filled with one byte.
     fn write(&mut self, handle: &mut Handle, block: BlockNo, fill: u8) -> Result<(), JournalError> {
         self.bytes.resize(self.journal.block_size(), 0)?;
         self.bytes.fill(fill);
         self.journal.write(handle, block, &self.bytes)
     }
 
-    /// Commits the transaction of a ticket, behind rounds where the ring has no room for it.
+    /// Commits the transaction of a ticket, after checkpoint rounds if the ring has no room for it.
     ///
     /// # Errors
     ///
@@ -120,8 +118,7 @@ impl<D: Device + Drop> Work<D> {
         }
     }
 
-    /// Closes the journal: all that was sealed, and the running transaction where a handle has joined it, is home, and the log is clean. The
-    /// device comes back.
+    /// Closes the journal, as `close` does.
     ///
     /// # Errors
     ///
@@ -134,12 +131,11 @@ impl<D: Device + Drop> Work<D> {
     }
 }
 
-/// Closes a journal: all that was sealed, and the running transaction where a handle has joined it, is home, and the log is clean. The
-/// device comes back.
+/// Closes a journal, and returns its device, whose log is clean.
 ///
 /// # Errors
 ///
-/// `NotRunning` where a handle is open; those of a close.
+/// `NotRunning`: a handle is open. Those of a close.
 pub(crate) fn close<D: Device + Drop>(journal: Journal<D>) -> Result<D, JournalError>
     ensures { IfOk result (λ device. D.honest device → IsLeftClosed (D.state device)) }
 {
@@ -149,7 +145,6 @@ pub(crate) fn close<D: Device + Drop>(journal: Journal<D>) -> Result<D, JournalE
     closed(journal)
 }
 
-/// Closes a journal that has no open handle. The device comes back.
 fn closed<D: Device + Drop>(journal: Journal<D>) -> Result<D, JournalError>
     requires { journal.journal.front.open_handles ≡ [] }
     ensures { IfOk result (λ device. D.honest device → IsLeftClosed (D.state device)) }

@@ -32,7 +32,7 @@ pub record HasFailedRead (old new : FileState) (area : Area) (at : ℕ) : Type 0
   pub asked_before : HasRead old before
   pub after : new ≡ record before { calls = ReadFailed area at ∷ before.calls; faults = one_more_fault before.faults }
 
--- the bytes hold all kept blocks, and each is what the log reads if every read so far agreed with the disk
+-- the bytes hold all kept blocks; each is what the log reads, if every read so far agreed
 pub record KeepsAhead (contents : FileContents) (size : ℕ) (calls : List FileCall) (a : Ahead) : Type 0 where
   pub fits : a.count * size ≤ length a.bytes.items
   pub reads : (k : ℕ) → k < a.count → AgreesEach contents size calls →

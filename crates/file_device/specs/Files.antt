@@ -51,7 +51,7 @@ after_call contents size m (ReadFailed area at) = m
 after_call contents size m (Wrote area at bytes) = moved m (written m.disk area (at / size) bytes)
 after_call contents size m (WriteFailed area at bytes) =
     moved m (if contents.failed_write_reads then written m.disk area (at / size) bytes else handed_over m.disk area (at / size) bytes)
--- the device keeps these blocks: they read as they were taken. A crash may leave each of them or what it replaced, by its earlier write
+-- the device keeps these blocks: they read as taken. A crash may leave each of them or what it replaced, by its earlier write
 after_call contents size m (GatheredFailed area at bytes) = m
 after_call contents size m (Synced area) = moved m (flushed m.disk area)
 after_call contents size m (SyncFailed area) = m
@@ -162,7 +162,7 @@ failed_for_good s call =
 abbrev pub handed_on : FileState → FileState
 handed_on s = record s { gathered = []; calls = s.gathered ++ s.calls }
 
--- the call that writes the gathered blocks failed: the device keeps them, and writes and flushes no more
+-- the write of the gathered blocks failed: the device keeps them, and writes and flushes no more
 pub record FailsToHandOn (old new : FileState) : Type 0 where
   pub area : Area
   pub at : ℕ
@@ -170,7 +170,7 @@ pub record FailsToHandOn (old new : FileState) : Type 0 where
   pub were : old.gathered ≡ writes_of area at old.block_size bytes (length bytes / old.block_size)
   pub after : new ≡ record old { calls = GatheredFailed area at bytes ∷ old.calls; has_failed = true; faults = one_more_fault old.faults }
 
--- One more write was asked for. The oldest due writes were made, in order, and the others are gathered: none is lost, none is made twice.
+-- One more write was asked for. The oldest due writes were made, in order, and the others are gathered: none is lost, and none made twice.
 pub record Takes (old new : FileState) (call : FileCall) : Type 0 where
   pub made : List FileCall
   pub calls : new.calls ≡ made ++ old.calls
@@ -181,7 +181,7 @@ pub record Takes (old new : FileState) (call : FileCall) : Type 0 where
 abbrev pub FailsAt : FileState → FileState → FileCall → Type 0
 FailsAt old new call = FailsToHandOn (counted old) new ⊎ (new ≡ failed_for_good (handed_on old) call)
 
--- after a failed write or flush, a call answers a fault, and changes only the counts of failures and calls
+-- after a failed write or flush, a call answers a fault, and changes only the counts
 abbrev pub IsRefused : {T E : Type 0} → Result T E → FileState → FileState → Type 0
 IsRefused result old new =
     old.has_failed ≡ true → IsErr result × (new ≡ record (counted old) { faults = one_more_fault old.faults })

@@ -9,19 +9,19 @@ use std::alloc::Global;
 /// How many bytes are read at once.
 pub(crate) const MOST_BYTES: usize = 65_536;
 
-/// A block is near the last one that was asked for if fewer blocks than this lie between them.
+/// Blocks with fewer than this many between them are near.
 const NEAR_BLOCKS: u64 = 8;
 
-/// Consecutive blocks of the log file, so that a reader that goes on from block to block needs one system call for many.
+/// Consecutive blocks of the log file: a reader that goes on from block to block needs one system call for many.
 #[derive(Drop)]
 pub(crate) struct Ahead {
     pub(crate) bytes: Vec<u8>,
-    /// The number of the first block, and how many blocks there are.
+    /// The first block, and how many there are.
     pub(crate) first: u64,
     pub(crate) count: u64,
     /// The block after the last one that was asked for.
     pub(crate) next: u64,
-    /// Whether the last two blocks that were asked for were near each other.
+    /// Whether the last two blocks that were asked for were near.
     pub(crate) is_steady: bool,
 }
 
@@ -39,7 +39,7 @@ impl Ahead {
         }
     }
 
-    /// The place of block `n` of the log among the kept blocks, if it is one.
+    /// The place of block `n` among the kept blocks, if it is one.
     pub(crate) fn place(&self, n: u64) -> Option<u64>
         ensures { IfSome result (λ k. (k < self.now.count) × (self.now.first + k ≡ n)) }
     {
@@ -60,7 +60,7 @@ impl Ahead {
         }
     }
 
-    /// Whether block `n` of the log is near the last one that was asked for, and after it.
+    /// Whether block `n` is near the last one that was asked for, and after it.
     pub(crate) fn is_near(&self, n: u64) -> bool {
         match n.checked_sub(self.next) {
             Some(between) => between < NEAR_BLOCKS,

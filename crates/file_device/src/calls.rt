@@ -1,5 +1,5 @@
-//! Makes a device's calls on its files. Each function makes one call of `std::fs::File` on the file of an area, and notes it with its exact
-//! answer. No proof sees what such a call does, so these functions have to be read.
+//! Makes a device's calls on its files. Each function makes one call of `std::fs::File` on an area's file, and notes it with its exact
+//! answer. No proof sees what the call does, so read these functions.
 ghost use Rattle.std.specs.Prelude.{◌≡◌, ◌+◌, ◌/◌, ◌<◌, ◌^◌, length, [], option_map, IsNone, IfOk, IfErr, OnOk, OnErr};
 ghost use Rattle.journal_model.specs.declared.number.Area.TheVariants.{Home};
 ghost use Rattle.file_device.specs.Calls.{Measured, Read, ReadFailed, Wrote, WriteFailed, GatheredFailed, Synced, SyncFailed};
@@ -42,8 +42,8 @@ impl NotedFiles {
         }
     }
 
-    /// The length of an area's file in bytes; 0 without a file, and then no call is made. A failed call is not noted, since no device is
-    /// made then.
+    /// The length of an area's file in bytes; 0 without a file, and then there is no call. A failed call is not noted: no device is made
+    /// then.
     pub(crate) fn measure(&mut self, area: Area) -> Result<u64, Unmeasured>
         ensures noted { IfOk result (λ length. self.new ≡ with_call self.old (Measured area length)) }
         ensures lone { IsNone self.old.home → area ≡ Home → result ≡ Ok 0 }
@@ -83,7 +83,7 @@ impl NotedFiles {
         answer
     }
 
-    /// Fills a buffer with whole blocks from byte `at` of an area's file on. Notes a read of each block.
+    /// Fills a buffer with whole blocks from byte `at` on. Notes a read of each.
     pub(crate) fn read_blocks(
         &mut self,
         area: Area,
@@ -130,7 +130,7 @@ impl NotedFiles {
         answer
     }
 
-    /// Writes whole blocks into an area's file by one call, from byte `at` on. Notes a write of each block, or one failed call.
+    /// Writes whole blocks by one call, from byte `at` on. Notes a write of each, or one failed call.
     pub(crate) fn write_blocks(
         &mut self,
         area: Area,
@@ -160,7 +160,7 @@ impl NotedFiles {
         answer
     }
 
-    /// Makes durable what was written into an area's file. Does nothing for an area without a file.
+    /// Makes durable what was written into an area's file, if it has one.
     pub(crate) fn sync(&mut self, area: Area) -> io::Result<()>
         ensures ok { OnOk result (self.new ≡ with_call self.old (Synced area)) }
         ensures err { OnErr result (self.new ≡ with_call self.old (SyncFailed area)) }

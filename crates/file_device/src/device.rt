@@ -1,15 +1,15 @@
 //! A device over files, and what is assumed of them.
 //!
 //! Contracts see its state as replayed from its calls on the files and their answers, a list in proofs alone (`FileState`, in
-//! `specs/Files.antt`). The clauses on the disk hold of real files under premises that no proof here shows:
+//! `specs/Files.antt`). The clauses on the disk hold of real files under premises that no proof shows:
 //!
 //! - Each function of `calls` makes the call that it notes, on that file, and notes its answer. One that noted a sync without a sync, or a
 //!   read with other bytes, would prove as well.
 //! - A file gives back what it took, and nobody else writes it while the device exists. If a read shows otherwise, `honest` is lost, and
 //!   with it the clause on the bytes of reads; all other clauses stand.
 //! - A sync that answers Ok has made durable all that the file took, and what it gave.
-//! - A crash leaves each block whole, as before a write or after it. The same holds, block by block, of a call that writes several blocks
-//!   and fails or is cut by a crash; no other block changes.
+//! - A crash leaves each block whole, as before a write or after it. The same holds, block by block, of a call that writes several and
+//!   fails or is cut by a crash; no other block changes.
 //! - A value of a `Contents` type stands for one pair of files.
 ghost use Rattle.std.specs.Prelude.{◌≡◌, ◌<◌, ◌*◌, ◌/◌, ◌↔◌, false, true, IsOk, OnOk, OnErr};
 ghost use Rattle.block_device.specs.State.{one_more_fault};
@@ -26,16 +26,16 @@ use std::alloc::Global;
 use std::fs::File;
 use std::marker::{Model, PhantomData};
 
-/// What is assumed of the files of one device. No code can read it: a function over any `C: Contents` is proved for any contents, and for
-/// both effects of a failed write.
+/// What is assumed of a device's files. No code can read it: a function over any `C: Contents` is proved for any contents, and for both
+/// effects of a failed write.
 pub trait Contents: Drop {
-    /// What the files hold when the device is made, and what a crash may leave instead, since writes of an earlier process may be unsynced;
-    /// and whether the bytes of a failed write are read from then on.
+    /// What the files hold when the device is made, or a crash may leave instead, since earlier writes may be unsynced; and whether the
+    /// bytes of a failed write are read from then on.
     ghost contents: { FileContents };
 }
 
-/// The type that a program names when it makes a device over files. Code with clauses takes any `C: Contents` instead: a clause at this
-/// type says nothing of files that hold anything.
+/// For a program that makes a device over files. Code with clauses takes any `C: Contents` instead: a clause at this type says nothing of
+/// files that hold anything.
 #[derive(Drop)]
 pub struct UnknownContents;
 
@@ -45,26 +45,25 @@ impl Contents for UnknownContents {
     ghost contents = { record { first = λ _ _. record { reads = []; others = [] }; failed_write_reads = false } };
 }
 
-/// A device over a log file and a home file, or over a log file alone; then its home area has no block.
+/// A device over a log file and a home file, or over a log file alone; then home has no block.
 ///
 /// Block `n` of an area starts at byte `n` times the block size of its file. An area has the whole blocks of its file; bytes after the last
-/// are never touched. Lengths are read once, when the device is made. A flush makes the area's file durable (fdatasync); without a home
-/// file, home has nothing to flush.
+/// are never touched. Lengths are read once, when the device is made. A flush makes the area's file durable (fdatasync), if there is one.
 ///
-/// Reads: if a reader goes over the log from block to block, leaving out a few at most, one system call fills a buffer of 64 KiB for it. A
-/// write to the log, and each flush, empties the buffer.
+/// Reads: for a reader that goes over the log from block to block, leaving out a few at most, one system call fills a buffer of 64 KiB. A
+/// write to the log, and each flush, empties it.
 ///
 /// Writes: consecutive blocks of an area are gathered in a buffer of 64 KiB. One system call writes them when a write can't be gathered
-/// with them, either area is flushed, or the device is dropped. Each write to the log is gathered. A write to home is gathered if it
-/// follows the previous one and there is room. A gathered block is read from the buffer. The write or flush that writes the buffer shows
-/// its failure, and those blocks are then read from the buffer for good. A failure at the drop shows nowhere: flush before. A killed
-/// program loses what is gathered, which no flush has promised, and no earlier write. Another opening of a file sees gathered blocks after
-/// a flush at the latest. Drop a device before its files are opened again, or it overwrites what was done there.
+/// with them, either area is flushed, or the device is dropped. Each write to the log is gathered; one to home is if it follows the
+/// previous write and there is room. Gathered blocks are read from the buffer. If their write fails, the write or flush that caused it
+/// fails, and they are read from the buffer for good. A failure at the drop shows nowhere: flush before. A killed program loses what is
+/// gathered, which no flush has promised, and no earlier write. Another opening of a file sees gathered blocks after a flush at the latest.
+/// Drop a device before its files are opened again, or it overwrites what was done there.
 ///
 /// The two buffers are all the memory that it takes. Without memory for them, nothing is read ahead and each block is written alone.
 ///
 /// After a failed write or flush each further one answers a fault and makes no call, since the system may have dropped what it was handed:
-/// open the files again to see what is there. A failed read changes nothing, and the device goes on.
+/// open the files again to see what is there. A failed read changes nothing.
 ///
 /// It may go to another thread, so threads can share a journal over files.
 pub struct FileDevice<C: Contents> {
@@ -132,7 +131,6 @@ impl<C: Contents> Model for FileDevice<C> {
         × KeepsGathered d.size d.gathered };
 }
 
-/// Where block `n` of a file of `length` bytes begins.
 fn place_of(n: u64, size: usize, length: u64) -> u64
     requires size { 0 < size }
     requires there { n < length / size }
@@ -149,13 +147,12 @@ impl<C: Contents> FileDevice<C> {
     ghost use Rattle.file_device.specs.Calls.{Wrote, WriteFailed};
     ghost use Rattle.file_device.specs.Files.{FailsToHandOn, HasAgreed, bytes_in, file_shape, file_state, files_disk, handed_on, new_device};
 
-    /// Makes a device with blocks of `block_size` bytes over these files: two regular files, each open for reading, and for writing if the
-    /// device is to be written. Their names and lengths are not synced here. The value of `C` is consumed, so that it stands for one
-    /// device's files.
+    /// Makes a device with blocks of `block_size` bytes over two regular files, open for reading, and for writing if the device is to be
+    /// written. Their names and lengths are not synced here. The value of `C` is consumed, so that it stands for one device's files.
     ///
     /// # Errors
     ///
-    /// The system can't tell the length of the file of the area in `Unmeasured`, with the system's answer; both files are closed.
+    /// The system can't tell the length of a file; `Unmeasured` has its area and the system's answer. Both files are closed.
     pub fn new(
         alloc: Global,
         _contents: C,
@@ -191,7 +188,7 @@ impl<C: Contents> FileDevice<C> {
         self.failure.as_ref()
     }
 
-    /// Notes that block `n` of the log is asked for. Returns whether the last two steps were both to a near block.
+    /// Notes that block `n` of the log is asked for. Returns whether this step and the last were to a near block.
     fn note_asked(&mut self, n: u64) -> bool
         ensures { self.new ≡ self.old }
     {
@@ -202,7 +199,6 @@ impl<C: Contents> FileDevice<C> {
         goes_on
     }
 
-    /// Hands out block `n` of the log, if it was read ahead.
     fn hand_out(&mut self, n: u64, into: &mut [u8]) -> bool
         requires block { length into.old ≡ self.old.block_size }
         ensures same { self.new ≡ self.old }
@@ -215,7 +211,7 @@ impl<C: Contents> FileDevice<C> {
         true
     }
 
-    /// Reads from block `n` of the log on as many blocks as the buffer holds. Reads none if log blocks are gathered, or without memory.
+    /// Reads from block `n` of the log on as many blocks as the buffer holds; none if log blocks are gathered, or without memory.
     fn read_ahead(&mut self, n: u64)
         requires there { n < (file_shape self.old).log_blocks }
         ensures { HasRead self.old self.new }
@@ -240,7 +236,7 @@ impl<C: Contents> FileDevice<C> {
         ahead.first = n;
     }
 
-    /// Reads a log block that is not gathered, and reads ahead if its reader goes on from block to block.
+    /// Reads a log block that is not gathered, and reads ahead for a reader that goes on from block to block.
     fn read_log(&mut self, n: u64, into: &mut [u8]) -> Result<(), DeviceFault>
         requires block { length into.old ≡ self.old.block_size }
         requires there { n < (file_shape self.old).log_blocks }
@@ -262,7 +258,6 @@ impl<C: Contents> FileDevice<C> {
         self.read_block(Area::Log, n, into)
     }
 
-    /// Reads one block that is not gathered.
     fn read_block(&mut self, area: Area, n: u64, into: &mut [u8]) -> Result<(), DeviceFault>
         requires block { length into.old ≡ self.old.block_size }
         requires there { n < blocks_in (file_state C.contents self.old).shape area }
@@ -278,7 +273,6 @@ impl<C: Contents> FileDevice<C> {
         }
     }
 
-    /// Hands out block `n` of an area, if it is gathered.
     fn hand_back(&self, area: Area, n: u64, into: &mut [u8]) -> bool
         requires block { length into.old ≡ self.now.block_size }
         ensures bytes { IsTrue result → into.new ≡ ((file_state C.contents self.now).disk area n).reads }
@@ -292,7 +286,7 @@ impl<C: Contents> FileDevice<C> {
         true
     }
 
-    /// Gathers block `n` of an area, if it follows the gathered blocks and there is room.
+    /// Gathers block `n` of an area, if it follows the gathered ones and there is room.
     fn gather(&mut self, area: Area, n: u64, bytes: &[u8]) -> bool
         requires block { length bytes.now ≡ self.old.block_size }
         requires there { n < blocks_in (file_state C.contents self.old).shape area }
@@ -320,7 +314,6 @@ impl<C: Contents> FileDevice<C> {
         }
     }
 
-    /// Writes one block.
     fn write_block(&mut self, area: Area, n: u64, bytes: &[u8]) -> Result<(), DeviceFault>
         requires none { self.old.gathered ≡ [] }
         requires block { length bytes.now ≡ self.old.block_size }
@@ -341,7 +334,6 @@ impl<C: Contents> FileDevice<C> {
         }
     }
 
-    /// Writes the gathered blocks, in one call.
     fn hand_on(&mut self) -> Result<(), DeviceFault>
         ensures ok { OnOk result (self.new ≡ handed_on self.old) }
         ensures err { OnErr result (FailsToHandOn self.old self.new) }
@@ -397,7 +389,7 @@ impl<C: Contents> FileDevice<C> {
         Ok(())
     }
 
-    /// Counts a failed write or flush, after which none is tried, and keeps the system's answer.
+    /// Counts a failed write or flush, the last that is tried, and keeps the system's answer.
     fn fail(&mut self, failure: Failure) -> DeviceFault
         ensures { self.new ≡ record self.old { has_failed = true; faults = one_more_fault self.old.faults } }
     {
@@ -466,8 +458,8 @@ impl<C: Contents> Device for FileDevice<C> {
         ensures calls { CountsCall (file_state C.contents self.old) (file_state C.contents self.new) }
         ensures honest { HasAgreed C.contents self.new → HasAgreed C.contents self.old }
 
-        // The file took the bytes after all that was gathered, or they are gathered with it. Or the write of what was gathered, or of the
-        // bytes, failed; then nothing is written or flushed any more.
+        // The file took the bytes after all that was gathered, or they are gathered with it. Or one of these writes failed, and no write or
+        // flush follows.
         ensures took { OnOk result (Takes self.old self.new (Wrote area (n * self.old.block_size) bytes.now)) }
         ensures failed { self.old.has_failed ≡ false →
             OnErr result (FailsAt self.old self.new (WriteFailed area (n * self.old.block_size) bytes.now)) }
@@ -491,8 +483,7 @@ impl<C: Contents> Device for FileDevice<C> {
         ensures calls { CountsCall (file_state C.contents self.old) (file_state C.contents self.new) }
         ensures honest { HasAgreed C.contents self.new → HasAgreed C.contents self.old }
 
-        // What was gathered is written, and then the file synced. Or one of these calls failed; then nothing is written or flushed any
-        // more.
+        // What was gathered is written, and then the file synced. Or one of these calls failed, and no write or flush follows.
         ensures synced { OnOk result (self.new ≡ asked (handed_on self.old) (Synced area)) }
         ensures failed { self.old.has_failed ≡ false → OnErr result (FailsAt self.old self.new (SyncFailed area)) }
         ensures refused { IsRefused result self.old self.new }

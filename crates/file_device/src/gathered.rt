@@ -1,4 +1,4 @@
-//! Gathers consecutive blocks that are to be written, so that one system call writes them.
+//! Gathers consecutive blocks, so that one system call writes them.
 ghost use Rattle.std.specs.Prelude.{◌≡◌, ◌+◌, ◌<◌, ◌≤◌, [], length, false, true, IfSome, IsNone, IsTrue};
 ghost use Rattle.journal_model.specs.Disk.{same_area};
 ghost use Rattle.file_device.specs.Gathered.{HoldsSame, IsAmong, IsApart, IsFreeOf, IsPushed};
@@ -14,7 +14,7 @@ const MOST_GATHERED: usize = 65_536;
 pub(crate) struct Gathered {
     /// The bytes of these blocks, and no others.
     pub(crate) bytes: Vec<u8>,
-    /// The area of the blocks, and the number of the first; if there are none, where they would begin.
+    /// The area of the blocks, and the first one's number; without blocks, where they would begin.
     pub(crate) area: Area,
     pub(crate) first: u64,
     /// How many blocks there are.
@@ -61,7 +61,7 @@ impl Gathered {
         self.count = 0;
     }
 
-    /// The place of block `n` of an area among the gathered blocks, if it is one.
+    /// The place of block `n` of an area among these, if it is one.
     pub(crate) fn place(&self, area: Area, n: u64) -> Option<u64>
         ensures found { IfSome result (λ k. IsAmong self.now area n k) }
         ensures apart { IsNone result → IsApart self.now area n }
@@ -92,7 +92,7 @@ impl Gathered {
         }
     }
 
-    /// Adds block `n` of an area, if it follows the others and there is room and memory. Returns whether it did.
+    /// Adds block `n` of an area, if it follows the others and there is room and memory; whether it did.
     pub(crate) fn push(&mut self, area: Area, n: u64, bytes: &[u8]) -> bool
         requires some { 0 < length bytes.now }
         ensures taken { IsTrue result → IsPushed self.old self.new area n bytes.now }

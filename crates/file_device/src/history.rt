@@ -6,7 +6,7 @@ ghost use Rattle.file_device.specs.Calls.{FileCall};
 use journal_model::Area;
 use std::marker::Model;
 
-/// A device's calls on its files, newest first. It exists in proofs alone: it has no bytes, and its functions do nothing.
+/// A device's calls on its files, newest first, in proofs alone: it has no bytes, and its functions do nothing.
 #[derive(Drop)]
 pub(crate) struct History {
     pub ghost calls: { List FileCall },
@@ -19,7 +19,7 @@ impl Model for History {
 // It owns nothing, so it may go to another thread.
 unsafe impl Send for History {}
 
-/// A call on the file of an area, with its answer. Lengths and places are in bytes, places from the beginning of the file.
+/// A call on an area's file, with its answer. Lengths and places are in bytes, places from the beginning of the file.
 #[derive(Clone, Copy, Drop)]
 pub(crate) enum Note<'a> {
     /// The length of the file; 0 for an area without a file.
@@ -32,7 +32,7 @@ pub(crate) enum Note<'a> {
     Wrote(Area, u64, &'a [u8]),
     /// These bytes were handed over for this place, and the call failed.
     WriteFailed(Area, u64, &'a [u8]),
-    /// These bytes of gathered blocks were handed over for this place in one call, and it failed.
+    /// Gathered blocks were handed over for this place in one call, and it failed.
     GatheredFailed(Area, u64, &'a [u8]),
     /// The file was synced.
     Synced(Area),

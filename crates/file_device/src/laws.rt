@@ -6,8 +6,8 @@ ghost use Rattle.journal_model.specs.Disk.{Image, IsOneOf, Leaves, held};
 ghost use Rattle.file_device.specs.Calls.{Read, ReadFailed, Wrote, WriteFailed, GatheredFailed, Synced, SyncFailed};
 ghost use Rattle.file_device.specs.Files.{FileContents, FileState, new_device, asked, file_state, files_disk, handed_on, GathersRun, HasAgreed};
 
-/// The premise of a device over files can be met and kept, whatever the files hold. A new device satisfies it. A read that gives what the
-/// file has keeps it, and so does every other call, whatever its answer, also one that writes gathered blocks.
+/// The premise can be met and kept, whatever the files hold. A new device satisfies it. A read that gives what the file has keeps it, and
+/// so do all other calls, whatever their answers, and the write of gathered blocks.
 pub fn answers_that_agree_keep_the_premise()
     ensures new { (contents : FileContents) (size : ℕ) (log : File) (home : Option File) (log_bytes home_bytes : ℕ) →
         HasAgreed contents (new_device size log home log_bytes home_bytes) }
@@ -30,7 +30,7 @@ pub fn answers_that_agree_keep_the_premise()
 {}
 
 /// A crash may lose or write gathered blocks, each by itself, and so may a failed or cut call that writes them. An image is a crash image
-/// of the device's disk if each of its blocks is a value that the files may be left with, or what the device reads.
+/// of the device's disk if each block is a value that the files may be left with, or what the device reads.
 pub fn what_is_gathered_may_be_lost()
     ensures { (contents : FileContents) (s : FileState) (image : Image) → GathersRun s →
         ((a : Area) (n : ℕ) → IsOneOf (held (files_disk contents s a n)) (image a n) ⊎ (image a n ≡ ((file_state contents s).disk a n).reads)) →

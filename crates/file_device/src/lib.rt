@@ -1,8 +1,8 @@
 //! A device over a log file and a home file, or over a log file alone.
 //!
-//! Contracts see it as a `DeviceState` of `block_device`, replayed from its calls on the files and their answers. Not proved, and not
-//! provable here, are the premises that `device` names: for instance that a real disk writes each block whole or not at all, and that its
-//! flush is honest.
+//! Contracts see it as a `DeviceState` of `block_device`, replayed from its calls on the files and their answers. The premises that
+//! `device` names are not proved, and not provable here: for instance, that a real disk writes each block whole or not at all, and that its
+//! flush makes data durable.
 #![tactic(auto)]
 
 mod ahead;

@@ -2,8 +2,8 @@
 //!
 //! A lock is advisory: it stops only those who ask for it. It belongs to one opening of a file, so it also stops a second opening in the
 //! same program. It lasts until the `File` that took it, and each clone of that, is closed, or the program ends in any way. So lock both
-//! files of a log before anything is read and before a device is made of them. The device then has the locks until it is dropped, after it
-//! wrote what it gathered. All this is the system's promise (`flock`); no clause can say it.
+//! files of a log before anything is read and a device is made of them: the device then has the locks until it is dropped, after it wrote
+//! what it gathered. All this is the system's promise (`flock`); no clause can say it.
 use std::error::Error;
 use std::fs::{File, TryLockError};
 use std::io::ErrorKind;
@@ -18,15 +18,15 @@ pub enum Unlocked {
     Failed(io::Error),
 }
 
-/// Shows that `lock` took the lock of a file to be written. The lock lasts as long as the file's opening, whatever becomes of this value.
+/// Shows that `lock` took the lock to write, which lasts as long as the file's opening, whatever becomes of this value.
 #[derive(Debug, Drop)]
 pub struct WriteLock(());
 
-/// Shows that `lock_shared` took the lock of a file to be read. The lock lasts as long as the file's opening.
+/// Shows that `lock_shared` took the lock to read, which lasts as long as the file's opening.
 #[derive(Debug, Drop)]
 pub struct ReadLock(());
 
-/// Takes the lock of a file that is to be written. No other opening has a lock, or gets one from then on. It does not wait.
+/// Takes the lock to write. No other opening has a lock, or gets one from then on. It does not wait.
 ///
 /// # Errors
 ///
@@ -37,8 +37,7 @@ pub fn lock(file: &File) -> Result<WriteLock, Unlocked> {
     Ok(WriteLock(()))
 }
 
-/// Takes the lock of a file that is only read. No other opening has the lock to write, or gets it from then on; others may take this one.
-/// It does not wait.
+/// Takes the lock to read. No other opening has the lock to write, or gets it from then on; others may take this one. It does not wait.
 ///
 /// # Errors
 ///

@@ -6,7 +6,7 @@ use std::os::unix::fs::FileExt;
 /// How many bytes are read and written at once: a page of the system's memory.
 const PAGE: usize = 4096;
 
-/// Writes a file's first `bytes` bytes again, or all if it has fewer, as they read, and syncs them. A loss of power then leaves what was
+/// Writes a file's first `bytes` bytes again, as they read, and syncs them; all, if it has fewer. A loss of power then leaves what was
 /// read.
 ///
 /// After a failed sync the system may hand out bytes that its disk lacks, and a later sync may still answer Ok, since it takes them to be
@@ -15,7 +15,7 @@ const PAGE: usize = 4096;
 /// page as one that its disk lacks, whatever it knew before.)
 ///
 /// It writes and syncs every other page, and then those between them. So no two pages of one sync are neighbours, and none is written
-/// within a longer write: a loop device answers Ok to a longer write that fails after its first page.
+/// within a longer write: a loop device answers Ok to one that fails after its first page.
 ///
 /// Each page is written with what it held, so other readers see no change, and a crash leaves each block as the disk had it or as it read.
 /// No clause can say this; it is tested by hand.
@@ -29,7 +29,7 @@ pub fn settle(file: &File, bytes: u64) -> io::Result<()> {
     settle_every_other(file, PAGE as u64, bytes)
 }
 
-/// Writes every other page of a file's first bytes again, from byte `from` on, and syncs them.
+/// Does so with every other page, from byte `from` on.
 fn settle_every_other(file: &File, from: u64, bytes: u64) -> io::Result<()> {
     let mut page = [0; PAGE];
     for pair in 0..bytes.div_ceil(2 * PAGE as u64) {
@@ -40,7 +40,7 @@ fn settle_every_other(file: &File, from: u64, bytes: u64) -> io::Result<()> {
     file.sync_data()
 }
 
-/// Reads bytes from `at` on into `room`, and writes them back.
+/// Writes back what it reads from byte `at` on into `room`.
 fn write_again(file: &File, at: u64, room: &mut [u8]) -> io::Result<()> {
     file.read_exact_at(room, at)?;
     file.write_all_at(room, at)

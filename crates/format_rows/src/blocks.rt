@@ -21,7 +21,7 @@ pub(crate) const USUAL: Measures = Measures {
     wide: false,
 };
 
-/// What is told of tags and numbers that no one block has room for.
+/// The result for tags or numbers that do not fit one block.
 const NO_ROOM: &str = "does not fit";
 
 /// Headers of blocks. Given: a block of 1024 bytes. Found: the type and the sequence in its header, or that it has none.
@@ -41,7 +41,6 @@ pub fn headers(alloc: Global, given: &str) -> Result<String, RowError> {
     }
 }
 
-/// The tag of a home block with these flags.
 fn tag(block: u64, flags: u32) -> Tag {
     Tag {
         block: BlockNo(block),
@@ -51,7 +50,6 @@ fn tag(block: u64, flags: u32) -> Tag {
     }
 }
 
-/// Adds the tags of a word.
 fn push_tags(tags: &mut Items<Tag>, word: &str) -> Result<(), RowError> {
     let (blocks, flags) = cut(word, "/")?;
     let (first, last) = series(blocks)?;
@@ -62,7 +60,6 @@ fn push_tags(tags: &mut Items<Tag>, word: &str) -> Result<(), RowError> {
     Ok(())
 }
 
-/// The tags of these words, as `spelling` has them.
 fn tags_of(alloc: Global, words: &str) -> Result<Items<Tag>, RowError> {
     let mut tags = Items::new(alloc);
     for word in words.split_whitespace() {
@@ -71,7 +68,6 @@ fn tags_of(alloc: Global, words: &str) -> Result<Items<Tag>, RowError> {
     Ok(tags)
 }
 
-/// Adds the numbers of a word.
 fn push_numbers(numbers: &mut Items<BlockNo>, word: &str) -> Result<(), RowError> {
     let (first, last) = series(word)?;
     for number in first..=last {
@@ -80,7 +76,6 @@ fn push_numbers(numbers: &mut Items<BlockNo>, word: &str) -> Result<(), RowError
     Ok(())
 }
 
-/// The numbers of these words, as `spelling` has them.
 fn numbers_of(alloc: Global, words: &str) -> Result<Items<BlockNo>, RowError> {
     let mut numbers = Items::new(alloc);
     for word in words.split_whitespace() {
@@ -89,7 +84,7 @@ fn numbers_of(alloc: Global, words: &str) -> Result<Items<BlockNo>, RowError> {
     Ok(numbers)
 }
 
-/// Writes a descriptor, where the tags fit one.
+/// False if the tags do not fit.
 fn write_tags(layout: LogLayout, block: &mut [u8], sequence: u32, tags: &[Tag]) -> bool
     requires taken { IsLayout layout }
     requires size { length block.old ≡ layout.block_size }
@@ -106,7 +101,7 @@ fn write_tags(layout: LogLayout, block: &mut [u8], sequence: u32, tags: &[Tag]) 
     false
 }
 
-/// Writes a revoke block, where the numbers fit one.
+/// False if the numbers do not fit.
 fn write_numbers(layout: LogLayout, block: &mut [u8], sequence: u32, numbers: &[BlockNo]) -> bool
     requires taken { IsLayout layout }
     requires size { length block.old ≡ layout.block_size }
@@ -121,8 +116,7 @@ fn write_numbers(layout: LogLayout, block: &mut [u8], sequence: u32, numbers: &[
     false
 }
 
-/// Writes the block that some words say: `descriptor=2 9/0008` is a descriptor of sequence 2 with a tag, `revoke=3 7 9` a revoke
-/// block of two home blocks, and `commit=3` a commit block. False where it has no room for the tags or numbers.
+/// Writes a block like `descriptor=2 9/0008`, `revoke=3 7 9` or `commit=3`. False if its tags or numbers do not fit.
 fn write_words(
     alloc: Global,
     layout: LogLayout,
@@ -152,8 +146,8 @@ fn write_words(
     }
 }
 
-/// Blocks as they are written. Given: `descriptor=T` and tags, `revoke=T` and numbers, or `commit=T`; behind that `wide` where block
-/// numbers have 64 bits. Found: the bytes of the block of 1024 bytes that is written so over bytes ff.
+/// Written blocks. Given: `descriptor=T` and tags, `revoke=T` and numbers, or `commit=T`, followed by `wide` for block numbers of 64 bits.
+/// Found: the bytes of the block of 1024 bytes that is written so over bytes ff.
 pub fn written_blocks(alloc: Global, given: &str) -> Result<String, RowError> {
     let (words, wide) = split_width(given);
     let mut block = [0xff; 1024];
@@ -164,7 +158,7 @@ pub fn written_blocks(alloc: Global, given: &str) -> Result<String, RowError> {
     }
 }
 
-/// Reads a descriptor, where the block has the header of one.
+/// `None` if the block is no descriptor.
 fn read_tags(
     layout: LogLayout,
     block: &[u8],
@@ -182,7 +176,7 @@ fn read_tags(
     Some(Descriptor::read(layout, block, Some(home_blocks), tags))
 }
 
-/// Reads a revoke block, where the block has the header of one.
+/// `None` if the block is no revoke block.
 fn read_numbers(
     layout: LogLayout,
     block: &[u8],
@@ -200,7 +194,6 @@ fn read_numbers(
     Some(RevokeBlock::read(layout, block, Some(home_blocks), numbers))
 }
 
-/// The tags that are read from a block, where it has the header of a descriptor.
 fn told_tags(
     alloc: Global,
     layout: LogLayout,
@@ -218,7 +211,6 @@ fn told_tags(
     }
 }
 
-/// The numbers that are read from a block, where it has the header of a revoke block.
 fn told_numbers(
     alloc: Global,
     layout: LogLayout,
@@ -236,7 +228,6 @@ fn told_numbers(
     }
 }
 
-/// What is read from a block, where home has so many blocks.
 fn told(
     alloc: Global,
     layout: LogLayout,
@@ -255,9 +246,8 @@ fn told(
     }
 }
 
-/// Blocks as they are read. Given: `home=N`, or `home=N wide` where block numbers have 64 bits, `|`, and a block of 1024 bytes. Found:
-/// the tags of a descriptor or the numbers of a revoke block where home has N blocks, `malformed block`, or `neither` where it is
-/// neither of them.
+/// Read blocks. Given: `home=N`, or `home=N wide` for block numbers of 64 bits, `|`, and a block of 1024 bytes. Found: the tags of a
+/// descriptor or the numbers of a revoke block for a home of N blocks, `malformed block`, or `neither` for another block.
 pub fn read_blocks(alloc: Global, given: &str) -> Result<String, RowError> {
     let (home, words) = cut(given, " | ")?;
     let (home, wide) = split_width(home);
@@ -270,7 +260,6 @@ pub fn read_blocks(alloc: Global, given: &str) -> Result<String, RowError> {
     told(alloc, layout_in(1024, wide), &block, home_blocks)
 }
 
-/// What is read from the block that some words say, as it is told.
 fn words_text(alloc: Global, words: &str) -> Result<String, RowError> {
     let (head, behind) = cut(words, " ")?;
     if head.starts_with("descriptor") {
@@ -280,7 +269,7 @@ fn words_text(alloc: Global, words: &str) -> Result<String, RowError> {
     }
 }
 
-/// What a full block tells: how many bytes it has before the zeros at its end, and what is read from it.
+/// A full block's bytes before the zeros at its end, and what is read from it.
 fn told_full(
     alloc: Global,
     layout: LogLayout,
@@ -302,10 +291,9 @@ fn told_full(
     Ok(format!(in alloc; "{bytes} bytes, {read}, {below}")?)
 }
 
-/// Full blocks. Given: `block=N home=N`, or `block=N home=N wide` where block numbers have 64 bits, `|`, and what is written into a
-/// block of that many bytes, as `written_blocks` takes it.
-/// Found: how many bytes it has before the zeros at its end, whether the same is read from it where home has so many blocks,
-/// and what is read where home has one less.
+/// Full blocks. Given: `block=N home=N`, or `block=N home=N wide` for block numbers of 64 bits, `|`, and what is written into a block of
+/// that size, as for `written_blocks`. Found: its bytes before the zeros at its end, whether it is read as written for a home of that many
+/// blocks, and what is read if home has one less.
 pub fn full_blocks(alloc: Global, given: &str) -> Result<String, RowError> {
     let (measures, words) = cut(given, " | ")?;
     let (measures, wide) = split_width(measures);
@@ -322,8 +310,8 @@ pub fn full_blocks(alloc: Global, given: &str) -> Result<String, RowError> {
     }
 }
 
-/// Home blocks that a transaction may touch. Given: `home=N block=N`, and `wide` where block numbers have 64 bits. Found: `allowed`
-/// where it may touch this block of a home area of so many, or `refused`.
+/// Home blocks that a transaction may touch. Given: `home=N block=N`, and `wide` for block numbers of 64 bits. Found: `allowed` if it may
+/// touch this block of a home of that many blocks, else `refused`.
 pub fn allowed_blocks(alloc: Global, given: &str) -> Result<String, RowError> {
     let (given, wide) = split_width(given);
     let [home_blocks, block] = values::<2>(given, "home block")?;

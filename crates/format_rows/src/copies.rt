@@ -9,14 +9,13 @@ use crate::words::cut;
 use log_format::{escape, unescape};
 use std::alloc::Global;
 
-/// Makes of a home block's bytes what stands for them in the log, and answers what is told of that.
+/// Escapes a copy, and says whether that changed it.
 fn told_escape(copy: &mut [u8]) -> &'static str
     requires { length copy.old ≡ 1024 }
 {
     if escape(copy) { "escaped: " } else { "left: " }
 }
 
-/// Does with a copy what a word names.
 fn does(copy: &mut [u8], name: &str) -> Result<&'static str, RowError>
     requires { length copy.old ≡ 1024 }
 {
@@ -34,9 +33,8 @@ fn does(copy: &mut [u8], name: &str) -> Result<&'static str, RowError>
     }
 }
 
-/// Copies and the magic. Given: `escape`, `unescape` for a copy under a tag that says that it is escaped, or `plain` for one
-/// under a tag that does not; `|`; and a block of 1024 bytes. Found: the block that becomes of it, and before that, of an
-/// `escape`, whether it was escaped.
+/// Copies and the magic. Given: `escape`, `unescape` for a copy whose tag says that it is escaped, or `plain` for one whose tag does not;
+/// `|`; and a block of 1024 bytes. Found: the resulting block, and before it, for `escape`, whether it was escaped.
 pub fn escapes(alloc: Global, given: &str) -> Result<String, RowError> {
     let (name, words) = cut(given, " | ")?;
     let mut copy = block_of(alloc, &USUAL, words)?;

@@ -8,7 +8,7 @@ use std::fmt;
 pub enum RowError {
     /// Memory ran out.
     Memory,
-    /// What the row gives can't be read.
+    /// The row's text can't be read.
     Unread,
 }
 
@@ -19,14 +19,14 @@ impl From<AllocError> for RowError {
 }
 
 impl From<fmt::Error> for RowError {
-    /// A text in memory fails to be written only where memory runs out.
+    /// Writing a text in memory fails only if memory runs out.
     fn from(_e: fmt::Error) -> RowError {
         RowError::Memory
     }
 }
 
 impl From<DeviceFault> for RowError {
-    /// A device in memory fails only where memory runs out.
+    /// A device in memory fails only if memory runs out.
     fn from(_e: DeviceFault) -> RowError {
         RowError::Memory
     }

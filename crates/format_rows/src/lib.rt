@@ -1,8 +1,6 @@
-//! What is done with rows of the log's format: blocks byte for byte, places, room and layouts.
-//!
-//! A row gives a text and says what text is wanted. Each kind of rows is a function here: it does what the row gives over the
-//! public functions of the crates below, and answers the text that it found. The program `journal_rows` reads the files of
-//! rows and compares. `spelling` says how blocks are spelled in every row.
+//! Rows of the log's format: blocks byte for byte, places, room and layouts. A row gives a text, and the text that is wanted. Each kind of
+//! rows is a function: it does what the row gives by public functions of the crates below, and returns the text that it found. The program
+//! `journal_rows` reads the files of rows and compares. `spelling` says how rows spell blocks.
 #![tactic(auto)]
 
 mod blocks;

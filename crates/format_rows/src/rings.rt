@@ -9,7 +9,7 @@ use log_ring::{Layout, Part, Ring};
 use std::alloc::Global;
 use std::fmt::Write;
 
-/// The greatest position of a row.
+/// The greatest position in a row.
 const MOST_POSITION: u64 = 1_000_000;
 
 /// The ring of the log blocks `first` to `maxlen - 1`.
@@ -23,7 +23,6 @@ fn ring_of(first: u64, maxlen: u64) -> Result<Ring, RowError> {
     Ok(Ring::new(first, maxlen))
 }
 
-/// Releases so many blocks, which have to be taken, and answers how many are free then.
 fn release(ring: &mut Ring, count: u64) -> Result<u64, RowError> {
     if ring.blocks() - ring.free() < count {
         return Err(RowError::Unread);
@@ -32,7 +31,6 @@ fn release(ring: &mut Ring, count: u64) -> Result<u64, RowError> {
     Ok(ring.free())
 }
 
-/// Takes so many blocks.
 fn take(ring: &mut Ring, count: u64) -> Result<Result<u64, JournalError>, RowError> {
     if ring.head() > MOST_POSITION {
         return Err(RowError::Unread);
@@ -40,7 +38,6 @@ fn take(ring: &mut Ring, count: u64) -> Result<Result<u64, JournalError>, RowErr
     Ok(ring.take(count))
 }
 
-/// What a ring answers to a call without an operand.
 fn asked(ring: &Ring, name: &str) -> Result<u64, RowError> {
     match name {
         "blocks" => Ok(ring.blocks()),
@@ -51,7 +48,6 @@ fn asked(ring: &Ring, name: &str) -> Result<u64, RowError> {
     }
 }
 
-/// What a ring answers to a call with an operand, or more.
 fn called(
     ring: &mut Ring,
     name: &str,
@@ -69,7 +65,6 @@ fn called(
     }
 }
 
-/// What a ring answers to the call of a line.
 fn answer_to(ring: &mut Ring, call: &str) -> Result<Result<u64, JournalError>, RowError> {
     match call.split_once(' ') {
         Some((name, operands)) => called(ring, name, operands),
@@ -77,7 +72,6 @@ fn answer_to(ring: &mut Ring, call: &str) -> Result<Result<u64, JournalError>, R
     }
 }
 
-/// The answer to a call as it is told.
 fn answer_text(alloc: Global, answer: Result<u64, JournalError>) -> Result<String, RowError> {
     match answer {
         Ok(number) => Ok(format!(in alloc; "{number}")?),
@@ -85,9 +79,8 @@ fn answer_text(alloc: Global, answer: Result<u64, JournalError>) -> Result<Strin
     }
 }
 
-/// Calls of a ring. Given: a line `first=N maxlen=N`, and a call a line: `blocks`, `free`, `head`, `tail`, `place P`,
-/// `advance B N`, `take N`, `release N`. Found: each call with its answer, one after the other; a release answers how many blocks
-/// are free behind it.
+/// Calls of a ring. Given: a line `first=N maxlen=N`, and a call a line: `blocks`, `free`, `head`, `tail`, `place P`, `advance B N`, `take
+/// N`, `release N`. Found: each call with its answer; a release answers how many blocks are then free.
 pub fn ring_calls(alloc: Global, given: &str) -> Result<String, RowError> {
     let (measures, calls) = cut(given, "\n")?;
     let [first, maxlen] = values::<2>(measures, "first maxlen")?;
@@ -101,7 +94,6 @@ pub fn ring_calls(alloc: Global, given: &str) -> Result<String, RowError> {
     text(alloc, told.as_str().trim_end())
 }
 
-/// The layout of a transaction in blocks of this size, whose block numbers have 64 bits or 32.
 fn layout_of(size: u64, wide: bool, copies: u64, revokes: u64) -> Result<Layout, RowError> {
     let known = size == 1024 || size == 2048 || size == 4096;
     if !known || copies > 2000 || revokes > 2000 {
@@ -110,7 +102,7 @@ fn layout_of(size: u64, wide: bool, copies: u64, revokes: u64) -> Result<Layout,
     Ok(Layout::new(layout_in(size as usize, wide), copies, revokes))
 }
 
-/// How many blocks the ring and the plain program need.
+/// By the ring, and by the plain program.
 fn need(size: u64, wide: bool, copies: u64, revokes: u64) -> Result<(u64, usize), RowError> {
     let known = size == 1024 || size == 2048 || size == 4096;
     if !known || copies > 2000 || revokes > 2000 {
@@ -126,7 +118,7 @@ fn need(size: u64, wide: bool, copies: u64, revokes: u64) -> Result<(u64, usize)
     Ok((Ring::need(layout, copies, revokes), plain))
 }
 
-/// The most copies, by the layout and by the plain program.
+/// By the layout, and by the plain program.
 fn capacity(size: u64, wide: bool, ring: u64) -> Result<(u64, usize), RowError> {
     let known = size == 1024 || size == 2048 || size == 4096;
     if !known || ring < 16 || ring > 1_048_576 {
@@ -137,8 +129,8 @@ fn capacity(size: u64, wide: bool, ring: u64) -> Result<(u64, usize), RowError> 
     Ok((Layout::capacity(layout, ring), plain))
 }
 
-/// Room of transactions. Given: `block=N copies=N revokes=N`, and `wide` where block numbers have 64 bits. Found: how many log blocks a transaction with these needs, by the
-/// ring and by the plain program.
+/// Room of transactions. Given: `block=N copies=N revokes=N`, and `wide` for block numbers of 64 bits. Found: how many log blocks such a
+/// transaction needs, by the ring and by the plain program.
 pub fn needs(alloc: Global, given: &str) -> Result<String, RowError> {
     let (given, wide) = split_width(given);
     let [block_size, copies, revokes] = values::<3>(given, "block copies revokes")?;
@@ -146,8 +138,8 @@ pub fn needs(alloc: Global, given: &str) -> Result<String, RowError> {
     Ok(format!(in alloc; "{need}, plain {plain}")?)
 }
 
-/// The most copies of a transaction. Given: `block=N ring=N`, the bytes of a block and the blocks of the ring, and `wide` where block
-/// numbers have 64 bits. Found: the most copies, by the layout and by the plain program.
+/// The most copies of a transaction. Given: `block=N ring=N`, a block's bytes and the ring's blocks, and `wide` for block numbers of 64
+/// bits. Found: the most copies, by the layout and by the plain program.
 pub fn capacities(alloc: Global, given: &str) -> Result<String, RowError> {
     let (given, wide) = split_width(given);
     let [block_size, ring] = values::<2>(given, "block ring")?;
@@ -155,7 +147,6 @@ pub fn capacities(alloc: Global, given: &str) -> Result<String, RowError> {
     Ok(format!(in alloc; "{capacity}, plain {plain}")?)
 }
 
-/// Adds a part of a transaction, behind its place.
 fn add_part(told: &mut String, place: u64, part: Part) -> Result<(), RowError> {
     match part {
         Part::Revokes { first, numbers } => {
@@ -170,8 +161,8 @@ fn add_part(told: &mut String, place: u64, part: Part) -> Result<(), RowError> {
     Ok(())
 }
 
-/// Parts of transactions. Given: `block=N copies=N revokes=N from=N to=N`, and `wide` where block numbers have 64 bits. Found: what
-/// each block of such a transaction is, from the one place, counted from 0, up to the other, as far as it has any, or `none`.
+/// Parts of transactions. Given: `block=N copies=N revokes=N from=N to=N`, and `wide` for block numbers of 64 bits. Found: what each block
+/// of such a transaction is, between these places, counted from 0, as far as it has any; or `none`.
 pub fn parts(alloc: Global, given: &str) -> Result<String, RowError> {
     let (given, wide) = split_width(given);
     let [block_size, copies, revokes, from, to] = values::<5>(
@@ -189,9 +180,8 @@ pub fn parts(alloc: Global, given: &str) -> Result<String, RowError> {
     text(alloc, told.as_str().trim_end())
 }
 
-/// Places of transactions. Given: `first=N maxlen=N block=N copies=N revokes=N start=N at=N`: a
-/// ring, a transaction that begins at this position of it, and a block of that, counted from 0. Found: the log block where it
-/// stands.
+/// Places of transactions. Given: `first=N maxlen=N block=N copies=N revokes=N start=N at=N`: a ring, a transaction that begins at this
+/// position of it, and a block of that, counted from 0. Found: the log block where it is.
 pub fn places(alloc: Global, given: &str) -> Result<String, RowError> {
     let [first, maxlen, block_size, copies, revokes, start, at] = values::<7>(
         given,

@@ -1,12 +1,12 @@
 //! The spelling of blocks, which all rows share:
 //!
 //! ```text
-//! BLOCK = [ WORD { WORD } [ "..HH" ] ]    its words one after the other; behind them zeros, or else bytes HH
+//! BLOCK = [ WORD { WORD } [ "..HH" ] ]    its words in order, then zeros, or else bytes HH
 //! WORD  = N "*" WORD           the word N times, if none of these is in it
 //!       | "descriptor=" T      the header of a descriptor with the sequence T
 //!       | "commit=" T          the header of a commit block
 //!       | "revoke=" T          the header of a revoke block
-//!       | B "/" HHHH           a tag of home block B with these flags; no UUID stands behind it
+//!       | B "/" HHHH           a tag of home block B with these flags; no UUID follows it
 //!       | A ".." B "/" HHHH    such tags of the home blocks A to B
 //!       | B "/" HHHHHHHH       a tag whose checksum field is not zero: it comes first
 //!       | "used=" N            a number of four bytes, as the count in a revoke block
@@ -20,9 +20,9 @@
 //!       | "@" P "=" HH..       these bytes from byte P of the block on
 //! ```
 //!
-//! A wide log has block numbers of 64 bits: a tag has the higher four bytes of one behind its flags. H is a hex digit. A number is
-//! spelled in decimal digits, or in hex digits behind `0x`. Every number of more than one byte
-//! has its highest byte first. The module `logs` of the crate `log_rows` has the spelling of a log.
+//! A wide log has block numbers of 64 bits: in a tag a number's higher four bytes follow the flags. H is a hex digit. Numbers are
+//! decimal, or hex digits after `0x`. A number of more than one byte has its highest byte first. The module `logs` of the crate
+//! `log_rows` has the spelling of a log.
 ghost use Rattle.std.specs.Prelude.{◌≡◌, ◌⊎◌};
 
 use crate::RowError;
@@ -30,16 +30,14 @@ use crate::words::{count, hex_byte, hex_bytes, hex32, number32, series};
 use journal_model::LogLayout;
 use std::alloc::Global;
 
-/// The magic.
 const MAGIC: u32 = 0xc03b_3998;
 
 /// The journal's UUID.
 pub const UUID: [u8; 16] = [0xaa; 16];
 
-/// The most bytes of a block.
 const MOST_BYTES: usize = 4096;
 
-/// What a formatted superblock depends on.
+/// The measures of a formatted superblock.
 #[derive(Clone, Copy)]
 pub struct Measures {
     /// Bytes of a block.
@@ -50,7 +48,7 @@ pub struct Measures {
     pub wide: bool,
 }
 
-/// The layout of a log in blocks of this size, whose block numbers have 64 bits or 32.
+/// The layout of a log in blocks of this size, for block numbers of 64 bits or 32.
 pub fn layout_in(block_size: usize, wide: bool) -> LogLayout
     ensures size { result.block_size ≡ block_size }
     ensures width { (result.number_bytes ≡ 4) ⊎ (result.number_bytes ≡ 8) }
@@ -62,7 +60,7 @@ pub fn layout_in(block_size: usize, wide: bool) -> LogLayout
     }
 }
 
-/// The block of the measures that these words spell.
+/// The block that these words spell.
 pub fn block_of(alloc: Global, measures: &Measures, words: &str) -> Result<Vec<u8>, RowError> {
     let (words, rest) = match words.rsplit_once(" ..") {
         Some((words, byte)) => (words, hex_byte(byte)?),
@@ -94,7 +92,6 @@ fn push_word(bytes: &mut Vec<u8>, measures: &Measures, word: &str) -> Result<(),
     Ok(())
 }
 
-/// Adds a word.
 fn push_one(bytes: &mut Vec<u8>, measures: &Measures, word: &str) -> Result<(), RowError> {
     if let Some((name, value)) = word.split_once('=') {
         return push_named(bytes, name, value);
@@ -110,25 +107,22 @@ fn push_one(bytes: &mut Vec<u8>, measures: &Measures, word: &str) -> Result<(), 
     }
 }
 
-/// Adds bytes.
 fn push_bytes(bytes: &mut Vec<u8>, more: &[u8]) -> Result<(), RowError> {
     bytes.extend_from_slice(more)?;
     Ok(())
 }
 
-/// Adds a number of four bytes.
 fn push_number(bytes: &mut Vec<u8>, number: u32) -> Result<(), RowError> {
     push_bytes(bytes, &number.to_be_bytes())
 }
 
-/// Adds the header of a log block.
 fn push_header(bytes: &mut Vec<u8>, block_type: u32, sequence: &str) -> Result<(), RowError> {
     push_number(bytes, MAGIC)?;
     push_number(bytes, block_type)?;
     push_number(bytes, number32(sequence)?)
 }
 
-/// The first and the last number of a series that a block has room for.
+/// The first and the last number of a series that fits a block.
 fn short_series(word: &str) -> Result<(u64, u64), RowError> {
     let (first, last) = series(word)?;
     if last.saturating_sub(first) > MOST_BYTES as u64 {
@@ -137,12 +131,10 @@ fn short_series(word: &str) -> Result<(u64, u64), RowError> {
     Ok((first, last))
 }
 
-/// A number of four bytes.
 fn narrow(number: u64) -> Result<u32, RowError> {
     u32::try_from(number).ok().ok_or(RowError::Unread)
 }
 
-/// Adds the numbers of a series of home blocks.
 fn push_numbers(bytes: &mut Vec<u8>, measures: &Measures, word: &str) -> Result<(), RowError> {
     let (first, last) = short_series(word)?;
     for number in first..=last {
@@ -155,7 +147,7 @@ fn push_numbers(bytes: &mut Vec<u8>, measures: &Measures, word: &str) -> Result<
     Ok(())
 }
 
-/// Adds tags of a series of home blocks. Behind the lower half of its number each has what stands behind the slash.
+/// Adds tags; the text after the slash follows the lower half of each number.
 fn push_tags(
     bytes: &mut Vec<u8>,
     measures: &Measures,
@@ -170,7 +162,6 @@ fn push_tags(
     Ok(())
 }
 
-/// Adds a tag of a home block.
 fn push_tag(bytes: &mut Vec<u8>, wide: bool, block: u64, flags: u32) -> Result<(), RowError> {
     if wide {
         push_number(bytes, (block % (1 << 32)) as u32)?;
@@ -181,7 +172,6 @@ fn push_tag(bytes: &mut Vec<u8>, wide: bool, block: u64, flags: u32) -> Result<(
     push_number(bytes, flags)
 }
 
-/// Adds a superblock as it is formatted.
 fn push_super(bytes: &mut Vec<u8>, measures: &Measures) -> Result<(), RowError> {
     let length = narrow(measures.log_blocks)?;
     let block_size = narrow(measures.block_size as u64)?;
@@ -193,7 +183,6 @@ fn push_super(bytes: &mut Vec<u8>, measures: &Measures) -> Result<(), RowError> 
     push_number(bytes, 1)
 }
 
-/// Adds, or puts at its place, what a word with a name says.
 fn push_named(bytes: &mut Vec<u8>, name: &str, value: &str) -> Result<(), RowError> {
     match name {
         "descriptor" => push_header(bytes, 1, value),
@@ -208,7 +197,6 @@ fn push_named(bytes: &mut Vec<u8>, name: &str, value: &str) -> Result<(), RowErr
     }
 }
 
-/// Puts a field, or bytes at a place.
 fn put_named(bytes: &mut Vec<u8>, name: &str, value: &str) -> Result<(), RowError> {
     if let Some(place) = name.strip_prefix('@') {
         let more = hex_bytes(*bytes.allocator(), value)?;
@@ -218,7 +206,6 @@ fn put_named(bytes: &mut Vec<u8>, name: &str, value: &str) -> Result<(), RowErro
     put(bytes, place, &number32(value)?.to_be_bytes())
 }
 
-/// Where a field of the superblock begins.
 fn place_of(field: &str) -> Result<usize, RowError> {
     Ok(match field {
         "s_blocksize" => 0x0c,
@@ -235,7 +222,7 @@ fn place_of(field: &str) -> Result<usize, RowError> {
     })
 }
 
-/// Puts bytes at a place, with zeros before it where nothing stands yet.
+/// Puts bytes at a place, after zeros if the block is shorter.
 fn put(bytes: &mut Vec<u8>, place: usize, more: &[u8]) -> Result<(), RowError> {
     let end = place.checked_add(more.len()).ok_or(RowError::Unread)?;
     if end > MOST_BYTES {

@@ -8,7 +8,6 @@ use log_format::Super;
 use std::alloc::Global;
 use std::fmt::Write;
 
-/// The fields of a superblock.
 fn fields_text(alloc: Global, fields: &Super) -> Result<String, RowError> {
     let mut told = String::new(alloc);
     let named = [
@@ -33,8 +32,8 @@ fn fields_text(alloc: Global, fields: &Super) -> Result<String, RowError> {
     Ok(told)
 }
 
-/// Superblocks as they are formatted. Given: `block=N length=N`, and `wide` where block numbers have 64 bits. Found: the bytes of a
-/// block of that size, formatted over bytes ff for a log of that many blocks.
+/// Formatted superblocks. Given: `block=N length=N`, and `wide` for block numbers of 64 bits. Found: the bytes of a block of that size,
+/// formatted over bytes ff for a log of that many blocks.
 pub fn formatted_superblocks(alloc: Global, given: &str) -> Result<String, RowError> {
     let (given, wide) = split_width(given);
     let [block_size, length] = values::<2>(given, "block length")?;
@@ -49,8 +48,7 @@ pub fn formatted_superblocks(alloc: Global, given: &str) -> Result<String, RowEr
     block_text(alloc, &block)
 }
 
-/// Superblocks that get another tail. Given: `sequence=N start=N`, `|`, and a block of 1024 bytes. Found: its bytes, once the
-/// tail is written into it.
+/// Superblocks with a new tail. Given: `sequence=N start=N`, `|`, and a block of 1024 bytes. Found: its bytes with that tail.
 pub fn started_superblocks(alloc: Global, given: &str) -> Result<String, RowError> {
     let (tail, words) = cut(given, " | ")?;
     let [sequence, start] = values::<2>(tail, "sequence start")?;
@@ -65,8 +63,8 @@ pub fn started_superblocks(alloc: Global, given: &str) -> Result<String, RowErro
     block_text(alloc, &block)
 }
 
-/// Superblocks as they are tested. Given: `bytes=N log=N`, `|`, and a block of 1024 bytes, of which the first N are read as block
-/// 0 of a log's area with so many blocks. Found: its fields where it is taken, or the refusal.
+/// Tested superblocks. Given: `bytes=N log=N`, `|`, and a block of 1024 bytes, whose first N are read as block 0 of a log's area of that
+/// many blocks. Found: its fields if it is accepted, or the refusal.
 pub fn tested_superblocks(alloc: Global, given: &str) -> Result<String, RowError> {
     let (measures, words) = cut(given, " | ")?;
     let [bytes, log_blocks] = values::<2>(measures, "bytes log")?;
@@ -78,7 +76,7 @@ pub fn tested_superblocks(alloc: Global, given: &str) -> Result<String, RowError
     }
 }
 
-/// Superblocks whose fields are read without a test. Given: a block of 1024 bytes. Found: its fields.
+/// Fields that are read without a test. Given: a block of 1024 bytes. Found: its fields.
 pub fn superblock_fields(alloc: Global, given: &str) -> Result<String, RowError> {
     let block = block_of(alloc, &USUAL, given)?;
     if block.len() != 1024 {

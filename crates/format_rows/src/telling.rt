@@ -1,4 +1,4 @@
-//! What rows tell: blocks, their bytes, and refusals.
+//! Texts for blocks, their bytes, and refusals.
 use crate::RowError;
 use journal_model::{BlockNo, JournalError};
 use log_format::Malformed;
@@ -6,7 +6,7 @@ use log_model::Tag;
 use std::alloc::Global;
 use std::fmt::Write;
 
-/// How many bytes a block has before those at its end that are all the same.
+/// How many bytes a block has before the equal ones at its end.
 fn bytes_before_rest(block: &[u8]) -> usize {
     let Some(rest) = block.last() else {
         return 0;
@@ -25,7 +25,6 @@ pub fn bytes_before_zeros(block: &[u8]) -> usize {
     }
 }
 
-/// Adds a byte in hex digits, as the one at this place of a block: there is a blank before each fourth.
 fn add_byte(told: &mut String, place: usize, byte: u8) -> Result<(), RowError> {
     if place > 0 && place % 4 == 0 {
         told.push(' ')?;
@@ -34,7 +33,6 @@ fn add_byte(told: &mut String, place: usize, byte: u8) -> Result<(), RowError> {
     Ok(())
 }
 
-/// Adds the byte that all further ones of a block are.
 fn add_rest(told: &mut String, rest: u8) -> Result<(), RowError> {
     if !told.is_empty() {
         told.push(' ')?;
@@ -43,8 +41,8 @@ fn add_rest(told: &mut String, rest: u8) -> Result<(), RowError> {
     Ok(())
 }
 
-/// The bytes of a block in hex digits, four together, up to those at its end that are all the same. These are not told where
-/// they are zeros, or else as in `..11`.
+/// The bytes of a block in hex digits, four together, without the equal ones at its end. These are left out if they are zeros, else shown
+/// like `..11`.
 pub fn block_text(alloc: Global, block: &[u8]) -> Result<String, RowError> {
     let mut told = String::new(alloc);
     for (place, byte) in block.iter().take(bytes_before_rest(block)).enumerate() {
@@ -66,7 +64,6 @@ pub fn add_bytes(told: &mut String, block: &[u8]) -> Result<(), RowError> {
     Ok(())
 }
 
-/// The flags of a tag as their number on the disk.
 fn flags_of(tag: &Tag) -> u8 {
     let escaped = u8::from(tag.escaped);
     let same_uuid = if tag.same_uuid { 2 } else { 0 };
@@ -74,18 +71,16 @@ fn flags_of(tag: &Tag) -> u8 {
     escaped | same_uuid | last
 }
 
-/// The word that spells a tag.
+/// The word for a tag.
 pub fn tag_word(alloc: Global, tag: &Tag) -> Result<String, RowError> {
     let flags = flags_of(tag);
     Ok(format!(in alloc; "{}/{flags:04x}", tag.block.0)?)
 }
 
-/// The word that spells a number.
 fn number_word(alloc: Global, number: &BlockNo) -> Result<String, RowError> {
     Ok(format!(in alloc; "{}", number.0)?)
 }
 
-/// Adds a word, and before it how many times it stands there where it does more than once.
 fn add_run(told: &mut String, times: u64, word: &str) -> Result<(), RowError> {
     if !told.is_empty() {
         told.push(' ')?;
@@ -97,7 +92,7 @@ fn add_run(told: &mut String, times: u64, word: &str) -> Result<(), RowError> {
     Ok(())
 }
 
-/// The words of a list, as in `3*9/0002 9/0008`: equal ones side by side are told once. Of an empty list `nothing` is told.
+/// Words like `3*9/0002 9/0008`: equal neighbours are counted. `nothing` for an empty list.
 fn runs<T: PartialEq, F: Fn(Global, &T) -> Result<String, RowError>>(
     alloc: Global,
     items: &[T],
@@ -130,17 +125,17 @@ pub fn numbers_text(alloc: Global, numbers: &[BlockNo]) -> Result<String, RowErr
     runs(alloc, numbers, number_word)
 }
 
-/// A text of its own.
+/// A copy of a text.
 pub fn text(alloc: Global, told: &str) -> Result<String, RowError> {
     Ok(String::from_str(alloc, told)?)
 }
 
-/// What is told of a block that is malformed.
+/// The text for a malformed block.
 pub fn malformed_text(alloc: Global, malformed: Malformed) -> Result<String, RowError> {
     Ok(format!(in alloc; "{malformed}")?)
 }
 
-/// What is told of a refusal.
+/// The text for a refusal.
 pub fn refusal_text(alloc: Global, refusal: JournalError) -> Result<String, RowError> {
     Ok(format!(in alloc; "refusal {} {refusal}", refusal.number())?)
 }

@@ -4,12 +4,12 @@ use hex::FromHexError;
 use std::alloc::Global;
 use std::str::SplitWhitespace;
 
-/// What stands before the first such mark, and what stands behind it.
+/// The text before the first such mark, and the text after it.
 pub fn cut<'a>(text: &'a str, mark: &str) -> Result<(&'a str, &'a str), RowError> {
     text.split_once(mark).ok_or(RowError::Unread)
 }
 
-/// The number that is spelled in decimal digits, or in hex digits behind `0x`.
+/// The number in decimal digits, or in hex digits after `0x`.
 pub fn number(word: &str) -> Result<u64, RowError> {
     let number = match word.strip_prefix("0x") {
         Some(digits) => u64::from_str_radix(digits, 16).ok(),
@@ -18,12 +18,12 @@ pub fn number(word: &str) -> Result<u64, RowError> {
     number.ok_or(RowError::Unread)
 }
 
-/// A number of four bytes, spelled so.
+/// The same for a number of four bytes.
 pub fn number32(word: &str) -> Result<u32, RowError> {
     u32::try_from(number(word)?).ok().ok_or(RowError::Unread)
 }
 
-/// A count of things in memory, spelled so.
+/// The same for a count of things in memory.
 pub fn count(word: &str) -> Result<usize, RowError> {
     usize::try_from(number(word)?).ok().ok_or(RowError::Unread)
 }
@@ -53,7 +53,7 @@ pub fn series(word: &str) -> Result<(u64, u64), RowError> {
     Ok((number(first)?, number(last)?))
 }
 
-/// What stands before a last word `wide`, and whether there is one.
+/// The words before a last word `wide`, and whether there is one.
 pub fn split_width(words: &str) -> (&str, bool) {
     match words.strip_suffix(" wide") {
         Some(others) => (others, true),
@@ -66,7 +66,7 @@ pub fn next_word<'a>(words: &mut SplitWhitespace<'a>) -> Result<&'a str, RowErro
     words.next().ok_or(RowError::Unread)
 }
 
-/// There is no further word.
+/// Fails if there is another word.
 pub fn no_word(words: &mut SplitWhitespace<'_>) -> Result<(), RowError> {
     match words.next() {
         None => Ok(()),
@@ -74,7 +74,7 @@ pub fn no_word(words: &mut SplitWhitespace<'_>) -> Result<(), RowError> {
     }
 }
 
-/// What stands behind this name in a word `NAME=VALUE`.
+/// The value of a word `NAME=VALUE` with this name.
 pub fn value_of<'a>(word: &'a str, name: &str) -> Result<&'a str, RowError> {
     let (found, value) = cut(word, "=")?;
     if found == name {
@@ -84,7 +84,7 @@ pub fn value_of<'a>(word: &'a str, name: &str) -> Result<&'a str, RowError> {
     }
 }
 
-/// The values of just these names, in this order, each in a word `NAME=VALUE`. Blanks stand between words, and names.
+/// The values of exactly these names, in this order, each in a word `NAME=VALUE`. Words and names are separated by blanks.
 pub fn values<const N: usize>(given: &str, names: &str) -> Result<[u64; N], RowError> {
     let mut found = [0; N];
     let mut words = given.split_whitespace();

@@ -1,4 +1,4 @@
--- Which copies of a chain a test of its texts finds covered.
+-- Lemmas: a test of a chain's texts finds exactly the covered copies.
 use Rattle.std.proofs.Common.{◌≡◌, ℕ, ◌+◌, ◌-◌, ◌<◌, ◌≤◌, ◌==◌, Bool, true, List, drop, get_or, length, refl, sym, ◌∙◌, ap, arith}
 use Rattle.std.specs.List.{list_any, Any}
 use Rattle.std.proofs.lemmas.List.{get_or-drop, length-drop}
@@ -13,7 +13,7 @@ use Rattle.log_model.specs.Text.{text_revokes}
 abbrev pub revokes : ℕ → Text → Bool
 revokes b text = list_any (λ number. number == b) (text_revokes text)
 
--- where the test finds a text from text i on, the block's copies in text i are covered
+-- if the test finds a text from text i on, the block's copies in text i are covered
 pub covered-from_any : (texts : List Text) (i b : ℕ) → list_any (revokes b) (drop i texts) ≡ true → IsCovered texts i b
 covered-from_any texts i b found =
     let (k, text, below, read, revoked) : Any (λ text. revokes b text ≡ true) (drop i texts) = Any-from_list_any (revokes b) (drop i texts) found in
@@ -26,7 +26,7 @@ covered-from_any texts i b found =
       revokes = contains-from_any b (text_revokes text) revoked;
     }
 
--- where they are covered, the test finds the text that revokes the block
+-- if they are covered, the test finds the text
 pub any-from_covered : (texts : List Text) (i b : ℕ) → IsCovered texts i b → list_any (revokes b) (drop i texts) ≡ true
 any-from_covered texts i b c =
     let low : i ≤ c.revoker = c.not_before in

@@ -1,4 +1,4 @@
--- What a loop over steps, blocks or transactions has found after one more of them: effects, touched blocks, entries.
+-- Lemmas: what a loop over steps, blocks or transactions has found after one more of them.
 use Rattle.std.proofs.Common.{◌≡◌, inl, inr, ℕ, ◌<◌, ◌==◌, true, false, List, [], ◌∷◌, ◌++◌, length, Option, Some, None, is_some, refl, sym, ◌∙◌, ap, ◌+◌, take, get_or, true≢false}
 use Rattle.std.specs.Option.{option_or}
 use Rattle.std.specs.List.{filter_map, list_any}
@@ -11,7 +11,7 @@ use Rattle.journal_model.specs.Transaction.{entry_of, later, effect, touched, la
 use Rattle.journal_model.specs.declared.transaction.Sealed.{Sealed}
 use Rattle.journal_model.proofs.Effects.{later-none, later-later, step_effect, effect-push, touched-effect, effect-touched, touched-push_read, touched-push_new, touched-push_known, entry_with}
 
--- the first of two options, where there is one, is the later of the two
+-- the first of two options, if there is one, is the later one
 or-later : (new old : Option Entry) → option_or new old ≡ later old new
 or-later None old = refl
 or-later (Some e) old = refl
@@ -20,19 +20,19 @@ or-later (Some e) old = refl
 effect-more : (b : ℕ) (ss : List Step) (i : ℕ) (s : Step) → i < length ss → s ≡ get_or ss i s → effect b (take (i + 1) ss) ≡ later (effect b (take i ss)) (step_effect b s)
 effect-more b ss i s below read = ap (effect b) (take-more_read ss i s below read) ∙ effect-push b (take i ss) s
 
--- a loop that reads a step of block b, and takes what it leaves, or else what was left before
+-- the loop reads a step of block b, and takes its entry, or else the old one
 pub effect-more_same : (b : ℕ) (ss : List Step) (i : ℕ) (s : Step) (old new : Option Entry) → i < length ss → s ≡ get_or ss i s → old ≡ effect b (take i ss) → (s.block == b) ≡ true → new ≡ entry_of s.op → option_or new old ≡ effect b (take (i + 1) ss)
 effect-more_same b ss i s old new below read before same made =
     let here : step_effect b s ≡ entry_of s.op = rw same in
     or-later new old ∙ rw (before, made, ← here) (sym (effect-more b ss i s below read))
 
--- a loop that reads a step of another block
+-- the loop reads a step of another block
 pub effect-more_other : (b : ℕ) (ss : List Step) (i : ℕ) (s : Step) (old : Option Entry) → i < length ss → s ≡ get_or ss i s → old ≡ effect b (take i ss) → (s.block == b) ≡ false → old ≡ effect b (take (i + 1) ss)
 effect-more_other b ss i s old below read before other =
     let none : step_effect b s ≡ None = rw other in
     before ∙ sym (effect-more b ss i s below read ∙ ap (later (effect b (take i ss))) none)
 
--- a loop that reads a touch of a block that is not yet listed, and lists it
+-- the loop reads a touch of a block that is not listed, and lists it
 pub touched-more_new : (ss : List Step) (i : ℕ) (s : Step) (old : List ℕ) → i < length ss → s ≡ get_or ss i s → old ≡ touched (take i ss) → is_some (entry_of s.op) ≡ true → list_any (λ y. y == s.block) old ≡ false → old ++ s.block ∷ [] ≡ touched (take (i + 1) ss)
 touched-more_new ss i s old below read before touch fresh =
     elim (option-known (entry_of s.op)) [
@@ -48,7 +48,7 @@ touched-more_new ss i s old below read before touch fresh =
           ]
     ]
 
--- a loop that reads a touch of a block that is listed
+-- the loop reads a touch of a listed block
 pub touched-more_known : (ss : List Step) (i : ℕ) (s : Step) (old : List ℕ) → i < length ss → s ≡ get_or ss i s → old ≡ touched (take i ss) → is_some (entry_of s.op) ≡ true → list_any (λ y. y == s.block) old ≡ true → old ≡ touched (take (i + 1) ss)
 touched-more_known ss i s old below read before touch found =
     elim (option-known (entry_of s.op)) [
@@ -58,7 +58,7 @@ touched-more_known ss i s old below read before touch found =
           before ∙ sym (ap touched (take-more_read ss i s below read) ∙ touched-push_known (take i ss) s e seen.0 made seen.1)
     ]
 
--- a loop that reads a step that is no touch
+-- the loop reads a step that is no touch
 pub touched-more_read : (ss : List Step) (i : ℕ) (s : Step) (old : List ℕ) → i < length ss → s ≡ get_or ss i s → old ≡ touched (take i ss) → is_some (entry_of s.op) ≡ false → old ≡ touched (take (i + 1) ss)
 touched-more_read ss i s old below read before none =
     elim (option-known (entry_of s.op)) [
@@ -66,22 +66,22 @@ touched-more_read ss i s old below read before none =
       | inr (e, made) ↦ absurd (true≢false (sym (ap is_some made) ∙ none))
     ]
 
--- a loop over blocks that lists the entry of each: one more block
+-- the entries of one more block
 entries-more : (f : ℕ → Option Entry) (bs : List ℕ) (i b : ℕ) → i < length bs → b ≡ get_or bs i b → filter_map (entry_with f) (take (i + 1) bs) ≡ filter_map (entry_with f) (take i bs) ++ filter_map (entry_with f) (b ∷ [])
 entries-more f bs i b below read =
     ap (filter_map (entry_with f)) (take-more_read bs i b below read) ∙ filter_map-append (entry_with f) (take i bs) (b ∷ [])
 
--- one with an effect
+-- of one with an effect
 pub entries-more_some : (f : ℕ → Option Entry) (bs : List ℕ) (i b : ℕ) (e : Entry) (old : List (ℕ × Entry)) → i < length bs → b ≡ get_or bs i b → old ≡ filter_map (entry_with f) (take i bs) → f b ≡ Some e → old ++ (b, e) ∷ [] ≡ filter_map (entry_with f) (take (i + 1) bs)
 entries-more_some f bs i b e old below read before made =
     ap (λ es. es ++ (b, e) ∷ []) before ∙ sym (entries-more f bs i b below read ∙ rw made)
 
--- one without
+-- of one without
 pub entries-more_none : (f : ℕ → Option Entry) (bs : List ℕ) (i b : ℕ) (old : List (ℕ × Entry)) → i < length bs → b ≡ get_or bs i b → old ≡ filter_map (entry_with f) (take i bs) → f b ≡ None → old ≡ filter_map (entry_with f) (take (i + 1) bs)
 entries-more_none f bs i b old below read before none =
     before ∙ sym (entries-more f bs i b below read ∙ rw (none, append-nil))
 
--- the last effect of transactions, and then of more
+-- the last effect of transactions, followed by more
 last_effect-append : (b : ℕ) (xs ys : List Sealed) → last_effect b (xs ++ ys) ≡ later (last_effect b xs) (last_effect b ys)
 last_effect-append b [] ys = sym (later-none (last_effect b ys))
 last_effect-append b (x ∷ xs) ys =
@@ -91,7 +91,7 @@ last_effect-append b (x ∷ xs) ys =
 last_effect-more : (b : ℕ) (ts : List Sealed) (i : ℕ) (t : Sealed) → i < length ts → t ≡ get_or ts i t → last_effect b (take (i + 1) ts) ≡ later (last_effect b (take i ts)) (effect b t.steps)
 last_effect-more b ts i t below read = ap (last_effect b) (take-more_read ts i t below read) ∙ last_effect-append b (take i ts) (t ∷ [])
 
--- a loop that reads a transaction, and takes its effect, or else what was left before
+-- the loop reads a transaction, and takes its effect, or else the old one
 pub last_effect-more_or : (b : ℕ) (ts : List Sealed) (i : ℕ) (t : Sealed) (old new : Option Entry) → i < length ts → t ≡ get_or ts i t → old ≡ last_effect b (take i ts) → new ≡ effect b t.steps → option_or new old ≡ last_effect b (take (i + 1) ts)
 last_effect-more_or b ts i t old new below read before made =
     or-later new old ∙ rw (before, made) (sym (last_effect-more b ts i t below read))

@@ -1,10 +1,10 @@
--- Numbers as bytes spell them.
+-- Lemmas: numbers as bytes spell them.
 use Rattle.std.proofs.Common.{◌≡◌, ℕ, zero, suc, ◌+◌, ◌*◌, ◌^◌, ◌<◌, ◌≤◌, List, arith, sym, ◌∙◌, ap, pow-suc, mul_assoc, add-zero, add-one, lt_of_lt_of_le}
 use Rattle.std.specs.Prelude.{slice_index}
 use Rattle.std.proofs.Math.Nat.{pow-le-pow_right}
 use Rattle.journal_model.specs.Layout.{number_at}
 
--- one more byte at the end
+-- the number with one more byte at the end
 pub number_at_more :
     (n at : ℕ) (bytes : List ℕ) → number_at at (suc n) bytes ≡ number_at at n bytes * 256 + slice_index bytes (at + n)
 number_at_more zero at bytes = omega (arith, ap (slice_index bytes) (add-zero at))
@@ -17,7 +17,7 @@ number_at_more (suc n) at bytes =
     ap (slice_index bytes) (omega arith) in
     omega arith
 
--- one more byte is below the next power
+-- with one more byte it is below the next power
 pub below_next_power : (n number byte : ℕ) → number < 256 ^ n → byte < 256 → number * 256 + byte < 256 ^ (n + 1)
 below_next_power n number byte h b = rw (add-one, pow-suc) (omega arith)
 

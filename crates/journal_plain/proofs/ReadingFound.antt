@@ -1,8 +1,8 @@
--- What is found under one name is found under another that means the same.
+-- Lemma: equivalent facts are found together.
 use Rattle.std.proofs.Common.{Option, Some, None}
 use Rattle.log_model.specs.ReadingLog.{Finds}
 
--- two facts that follow from each other are found together
+-- equivalent facts are found together
 pub found_same :
     {X : Type 0} (P Q : X → Type 0) (found : Option X)
     → ((x : X) → P x → Q x) → ((x : X) → Q x → P x) → Finds P found → Finds Q found

@@ -1,4 +1,4 @@
-//! The plain program that reads the chain of a log, and the damaged block behind it.
+//! Reads the chain of a log, and finds the damaged block after it, slowly and by the definitions.
 
 ghost use Rattle.std.specs.Prelude.{◌≡◌, ℕ, ◌+◌, ◌*◌, ◌^◌, ◌<◌, ◌≤◌, ◌↔◌, List, length, drop, IsTrue, IfOk, IfSome, IfNone, MatchOption, All};
 ghost use Rattle.log_model.specs.declared.log.Tag.{Tag};
@@ -15,8 +15,7 @@ use journal_model::{Block, BlockNo, Items};
 use log_model::{Piece, Tag, Text};
 use std::alloc::{AllocError, Global};
 
-/// What a reader knows of a log before it reads: the bytes in a block and in a block number, and how many blocks
-/// the home area has.
+/// What is known of a log before it is read: the bytes of a block and of a block number, and the blocks of home.
 #[derive(Clone, Copy)]
 struct Measures {
     block_size: usize,
@@ -26,7 +25,7 @@ struct Measures {
     ghost few: { number_bytes ≤ 8 },
 }
 
-/// The number in `count` bytes from a place on, the highest first. What lies behind the end counts as 0.
+/// The number in `count` bytes from a place on, the highest first; bytes after the end count as 0.
 fn read_number(at: usize, count: usize, bytes: &[u8]) -> u64
     requires near { at < 2 ^ 32 }
     requires few { count ≤ 8 }
@@ -41,7 +40,6 @@ fn read_number(at: usize, count: usize, bytes: &[u8]) -> u64
     number
 }
 
-/// Whether the block begins with a header of this type and this number of a transaction.
 fn has_header(kind: u32, sequence: u64, block: &[u8]) -> bool
     ensures value { IsTrue result ↔ HasHeader kind sequence block.now }
     ensures below { IsTrue result → sequence < 2 ^ 32 }
@@ -51,7 +49,7 @@ fn has_header(kind: u32, sequence: u64, block: &[u8]) -> bool
         && read_number(8, 4, block) == sequence
 }
 
-/// The tag of this block with these flags. Flag 4 and those from 16 on are no tag's.
+/// The tag of this block with these flags. Flag 4, and flags from 16 on, are not a tag's.
 fn tag_of(block: BlockNo, flags: u64) -> Option<Tag>
     ensures { Finds (λ t. (t.block ≡ block) × (flags ≡ flag_word t)) result }
 {
@@ -66,7 +64,6 @@ fn tag_of(block: BlockNo, flags: u64) -> Option<Tag>
     })
 }
 
-/// The tag that the bytes begin with.
 fn tag_at(measures: Measures, bytes: &[u8]) -> Option<Tag>
     ensures { Finds (BeginsWithTag (layout_with measures.block_size measures.number_bytes) bytes.now) result }
 {
@@ -81,14 +78,13 @@ fn tag_at(measures: Measures, bytes: &[u8]) -> Option<Tag>
     )
 }
 
-/// Whether the home area has the block that the tag names.
 fn names_home(measures: Measures, tag: &Tag) -> bool
     ensures { IsTrue result ↔ tag.now.block < measures.count }
 {
     tag.block.0 < measures.count
 }
 
-/// How many bytes the tag takes, with the UUID behind it.
+/// How many bytes the tag takes, with a UUID after it.
 fn bytes_of(measures: Measures, tag: &Tag) -> usize
     ensures value { result ≡ tag_bytes (layout_with measures.block_size measures.number_bytes) + uuid_behind tag.now }
     ensures some { 0 < result }
@@ -98,7 +94,6 @@ fn bytes_of(measures: Measures, tag: &Tag) -> usize
     measures.number_bytes + 4 + uuid
 }
 
-/// The tags that the bytes begin with, if each names a home block.
 fn tags_in(
     alloc: Global,
     measures: Measures,
@@ -127,7 +122,6 @@ fn tags_in(
     Ok(None)
 }
 
-/// The tags of the block, if it is a well-formed descriptor of this number of a transaction.
 fn tags(
     alloc: Global,
     measures: Measures,
@@ -146,7 +140,7 @@ fn tags(
     tags_in(alloc, measures, spelled)
 }
 
-/// How many numbers the block holds, by the field behind its header.
+/// How many numbers the block holds, by the field after its header.
 fn count_of_numbers(measures: Measures, block: &[u8]) -> Option<usize>
     ensures none { IfNone result ((n : ℕ) → number_at 12 4 block.now ≡ revoke_header_bytes + measures.number_bytes * n → revoke_header_bytes + measures.number_bytes * n ≤ measures.block_size → ⊥) }
     ensures some { IfSome result (λ n. (number_at 12 4 block.now ≡ revoke_header_bytes + measures.number_bytes * n) × (revoke_header_bytes + measures.number_bytes * n ≤ measures.block_size)) }
@@ -164,7 +158,6 @@ fn count_of_numbers(measures: Measures, block: &[u8]) -> Option<usize>
     }
 }
 
-/// The first numbers of the block, as many as are asked for, if each names a home block.
 fn first_numbers(
     alloc: Global,
     measures: Measures,
@@ -186,7 +179,6 @@ fn first_numbers(
     Ok(Some(numbers))
 }
 
-/// The numbers of the block, if it is a well-formed revoke block of this number of a transaction.
 fn numbers(
     alloc: Global,
     measures: Measures,
@@ -204,7 +196,6 @@ fn numbers(
     first_numbers(alloc, measures, length, block)
 }
 
-/// Copies of these blocks.
 fn copies_of(alloc: Global, blocks: &[Block]) -> Result<Items<Block>, AllocError>
     ensures { IfOk result (λ copies. copies ≡ blocks.now) }
 {
@@ -215,7 +206,6 @@ fn copies_of(alloc: Global, blocks: &[Block]) -> Result<Items<Block>, AllocError
     Ok(copies)
 }
 
-/// The piece that the blocks begin with, and how many of them it takes.
 fn piece(
     alloc: Global,
     measures: Measures,
@@ -244,7 +234,6 @@ fn piece(
     Ok(Some((Piece::Copies(block, tags, copies), 1 + length)))
 }
 
-/// All pieces that the blocks begin with, and how many of them they take.
 fn pieces(
     alloc: Global,
     measures: Measures,
@@ -267,7 +256,6 @@ fn pieces(
     }
 }
 
-/// The text that the blocks begin with, and how many of them it takes.
 fn text(
     alloc: Global,
     measures: Measures,
@@ -289,8 +277,7 @@ fn text(
     Ok(Some((Text { pieces, commit }, taken + 1)))
 }
 
-/// The texts in a row that the blocks begin with, the number of a transaction that is due behind them, and how many
-/// blocks they take.
+/// The texts at the beginning of the blocks, the next transaction number, and how many blocks the texts take.
 fn texts(
     alloc: Global,
     measures: Measures,
@@ -315,7 +302,6 @@ fn texts(
     }
 }
 
-/// Whether the block is a malformed descriptor of this number of a transaction.
 fn is_bad_descriptor(
     alloc: Global,
     measures: Measures,
@@ -330,7 +316,6 @@ fn is_bad_descriptor(
     Ok(tags(alloc, measures, sequence, block)?.is_none())
 }
 
-/// Whether the block is a malformed revoke block of this number of a transaction.
 fn is_bad_revoke_block(
     alloc: Global,
     measures: Measures,
@@ -345,7 +330,6 @@ fn is_bad_revoke_block(
     Ok(numbers(alloc, measures, sequence, block)?.is_none())
 }
 
-/// Whether the block is a malformed descriptor or revoke block of this number of a transaction.
 fn is_malformed(
     alloc: Global,
     measures: Measures,
@@ -359,9 +343,8 @@ fn is_malformed(
     Ok(descriptor || revoke_block)
 }
 
-/// The chain of the blocks of a log from the number `sequence` of a transaction on: the longest list of texts in a
-/// row that the blocks begin with. A block has `block_size` bytes and a block number `number_bytes`, of which there
-/// are one to eight; the home area has `count` blocks.
+/// The chain of a log's blocks from transaction `sequence` on: the longest list of texts at their beginning, with numbers in a row. A block
+/// has `block_size` bytes, a block number `number_bytes` (1 to 8), and home `count` blocks. Fails if memory runs out.
 pub fn chain(
     alloc: Global,
     block_size: usize,
@@ -383,9 +366,8 @@ pub fn chain(
     Ok(texts)
 }
 
-/// The damaged block behind the chain of the blocks of a log, counted from the first of them, if there is one: the
-/// first block behind the chain, and behind the well-formed pieces there, is a malformed one of the number that is
-/// due. The parameters are those of `chain`.
+/// The damaged block after the chain, counted from the first block, if any: the block after the chain and the well-formed pieces that
+/// follow it, if it is malformed and has the next number. The parameters are those of `chain`. Fails if memory runs out.
 pub fn damage(
     alloc: Global,
     block_size: usize,

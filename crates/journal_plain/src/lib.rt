@@ -1,5 +1,5 @@
-//! The plain program: functions over small lists whose contracts are the definitions. They take what time they
-//! need, and tests compare the journal's own code with them.
+//! The plain program: functions over small lists whose contracts are the definitions. They are slow; tests compare the journal's code with
+//! them.
 #![tactic(auto)]
 
 pub mod chain;

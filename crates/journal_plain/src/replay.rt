@@ -1,4 +1,4 @@
-//! Which copy of a chain a block gets at replay.
+//! Tells which copy of a chain a block gets at replay.
 
 ghost use Rattle.std.specs.Prelude.{◌≡◌, ◌++◌, ◌==◌, ◌↔◌, ◌<◌, ◌≤◌, ℕ, IfOk, IsTrue, List, MatchOption, OnOk, Some, length, map, slice_get};
 ghost use Rattle.std.specs.List.{list_any, zip};
@@ -11,7 +11,6 @@ use journal_model::{Block, BlockNo, Items};
 use log_model::{Piece, Tag, Text};
 use std::alloc::{AllocError, Global};
 
-/// Whether a piece revokes a block.
 fn piece_revokes(piece: &Piece, block: BlockNo) -> bool
     ensures { result ≡ list_any (λ number. number == block) (piece_revokes piece.now) }
 {
@@ -21,7 +20,6 @@ fn piece_revokes(piece: &Piece, block: BlockNo) -> bool
     }
 }
 
-/// Whether one of these pieces revokes a block.
 fn any_piece_revokes(pieces: &[Piece], block: BlockNo) -> bool
     ensures { result ≡ list_any (λ piece. list_any (λ number. number == block) (piece_revokes piece)) pieces.now }
 {
@@ -33,14 +31,12 @@ fn any_piece_revokes(pieces: &[Piece], block: BlockNo) -> bool
     false
 }
 
-/// Whether a text revokes a block.
 fn text_revokes(text: &Text, block: BlockNo) -> bool
     ensures { result ≡ list_any (λ number. number == block) (text_revokes text.now) }
 {
     any_piece_revokes(text.pieces.as_slice(), block)
 }
 
-/// Whether one of these texts revokes a block.
 fn any_text_revokes(texts: &[Text], block: BlockNo) -> bool
     ensures { result ≡ list_any (λ text. list_any (λ number. number == block) (text_revokes text)) texts.now }
 {
@@ -59,7 +55,7 @@ pub fn covered(texts: &[Text], i: usize, block: BlockNo) -> bool
     any_text_revokes(&texts[i.min(texts.len())..], block)
 }
 
-/// A copy as replay writes it. It fails where memory runs out.
+/// A copy as replay writes it. Fails if memory runs out.
 fn unescaped(alloc: Global, escaped: bool, stored: &Block) -> Result<Block, AllocError>
     ensures { IfOk result (λ copy. copy ≡ unescaped escaped stored.now) }
 {
@@ -72,8 +68,7 @@ fn unescaped(alloc: Global, escaped: bool, stored: &Block) -> Result<Block, Allo
     Ok(Block::new(bytes)?)
 }
 
-/// Adds copies to the list, each as replay writes it, with the home block that its tag names. It fails where
-/// memory runs out.
+/// Adds copies to the list, as replay writes them. Fails if memory runs out.
 fn add_copies(
     alloc: Global,
     list: &mut Items<(BlockNo, Block)>,
@@ -88,7 +83,7 @@ fn add_copies(
     Ok(())
 }
 
-/// The copies of a text as replay writes them home, each with its home block. It fails where memory runs out.
+/// The copies of a text as replay writes them, each with its home block. Fails if memory runs out.
 pub fn text_copies(alloc: Global, text: &Text) -> Result<Items<(BlockNo, Block)>, AllocError>
     ensures { IfOk result (λ list. list ≡ text_copies text.now) }
 {
@@ -101,7 +96,6 @@ pub fn text_copies(alloc: Global, text: &Text) -> Result<Items<(BlockNo, Block)>
     Ok(list)
 }
 
-/// The place of the last copy of a block among these copies.
 fn last_copy(copies: &[(BlockNo, Block)], block: BlockNo) -> Option<usize>
     ensures { MatchOption result
         ((k : ℕ) (bytes : List ℕ) → slice_get copies.now k ≡ Some (block, bytes) → ⊥)
@@ -117,7 +111,7 @@ fn last_copy(copies: &[(BlockNo, Block)], block: BlockNo) -> Option<usize>
     last
 }
 
-/// The last live copy of a block in text `i` of a chain. It fails where memory runs out.
+/// The last live copy of a block in text `i` of a chain. Fails if memory runs out.
 fn last_live(
     alloc: Global,
     texts: &[Text],
@@ -141,8 +135,7 @@ fn last_live(
     }
 }
 
-/// The newest live copy of a block in a chain, which is what replay makes of the block, or nothing where it leaves
-/// the block as it is. It fails where memory runs out.
+/// The newest live copy of a block in a chain, which replay writes; `None` if replay leaves the block. Fails if memory runs out.
 pub fn newest(alloc: Global, texts: &[Text], block: BlockNo) -> Result<Option<Block>, AllocError>
     ensures { IfOk result (λ found. MatchOption found (HasNoLive texts.now block) (λ bytes. IsNewest texts.now block bytes)) }
 {

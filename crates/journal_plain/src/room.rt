@@ -1,5 +1,5 @@
-//! How many log blocks a transaction takes, and how many copies one may have, in a log with blocks of
-//! `block_size` bytes and block numbers of `number_bytes` bytes.
+//! How many log blocks a transaction takes, and how many copies it may have, for blocks of `block_size` bytes and block numbers of
+//! `number_bytes` bytes.
 
 ghost use Rattle.std.specs.Prelude.{◌≡◌, ◌+◌, ◌/◌, ◌<◌, ◌≤◌, ◌↔◌, IsTrue};
 ghost use Rattle.journal_model.specs.Layout.{numbers_of, tags_of};
@@ -8,7 +8,7 @@ ghost use Rattle.log_model.specs.Room.{IsCapacity, need};
 
 use journal_model::layout::{HEADER_BYTES, REVOKE_HEADER_BYTES, UUID_BYTES};
 
-/// Bytes of a tag beside the block number in it.
+/// Bytes of a tag besides its block number.
 const TAG_FIELD_BYTES: usize = 4;
 
 /// How many tags the writer puts into one descriptor.
@@ -31,7 +31,7 @@ fn numbers_of(block_size: usize, number_bytes: usize) -> usize
     block_size.saturating_sub(REVOKE_HEADER_BYTES) / number_bytes
 }
 
-/// The log blocks of a transaction of this many copies and revokes.
+/// The log blocks of a transaction with this many copies and revokes.
 pub fn need(block_size: usize, number_bytes: usize, copies: usize, revokes: usize) -> usize
     requires tags { 0 < tags_of (record { block_size = block_size; number_bytes = number_bytes }) }
     requires numbers { 0 < numbers_of (record { block_size = block_size; number_bytes = number_bytes }) }
@@ -43,8 +43,6 @@ pub fn need(block_size: usize, number_bytes: usize, copies: usize, revokes: usiz
     copies + descriptors + revoke_blocks + 1
 }
 
-/// Whether this many copies, with descriptors of this many tags each, take at most a quarter of a ring of this
-/// many blocks.
 fn fits_quarter(tags: usize, ring: usize, copies: usize) -> bool
     requires tags { 0 < tags }
     requires copies { copies ≤ ring / 4 }
@@ -53,8 +51,7 @@ fn fits_quarter(tags: usize, ring: usize, copies: usize) -> bool
     copies + copies.div_ceil(tags) + 1 <= ring / 4
 }
 
-/// The most credits of one transaction in a ring of this many blocks: the greatest number of copies that takes at
-/// most a quarter of it.
+/// The most credits of a transaction in a ring of this many blocks: the most copies that take at most a quarter of it.
 pub fn capacity(block_size: usize, number_bytes: usize, ring: usize) -> usize
     requires tags { 0 < tags_of (record { block_size = block_size; number_bytes = number_bytes }) }
     requires ring { 4 ≤ ring }

@@ -1,4 +1,4 @@
-//! The effects of steps, the entries of a transaction, and what a block is after some transactions.
+//! The effects of steps, the entries of a transaction, and a block's content after some transactions.
 
 ghost use Rattle.std.specs.Prelude.{◌≡◌, IfOk, is_some};
 ghost use Rattle.journal_model.specs.Transaction.{after, content_of, effect, entries, entry_of, last_effect, touched};
@@ -6,7 +6,6 @@ ghost use Rattle.journal_model.specs.Transaction.{after, content_of, effect, ent
 use journal_model::{BlockNo, Content, Entry, Items, Op, Sealed, Step};
 use std::alloc::{AllocError, Global};
 
-/// What an operation leaves of its block: nothing, where it is a read.
 fn entry_of(op: &Op) -> Result<Option<Entry>, AllocError>
     ensures { IfOk result (λ entry. entry ≡ entry_of op.now) }
 {
@@ -17,8 +16,7 @@ fn entry_of(op: &Op) -> Result<Option<Entry>, AllocError>
     }
 }
 
-/// The effect of these steps on a block: what the last write or revoke of it leaves. It fails where memory runs
-/// out.
+/// The effect of these steps on a block: the entry of the last write or revoke of it. Fails if memory runs out.
 pub fn effect(steps: &[Step], block: BlockNo) -> Result<Option<Entry>, AllocError>
     ensures { IfOk result (λ entry. entry ≡ effect block steps.now) }
 {
@@ -31,7 +29,6 @@ pub fn effect(steps: &[Step], block: BlockNo) -> Result<Option<Entry>, AllocErro
     Ok(left)
 }
 
-/// Whether an operation leaves an entry.
 fn leaves_entry(op: &Op) -> bool
     ensures { result ≡ is_some (entry_of op.now) }
 {
@@ -41,8 +38,7 @@ fn leaves_entry(op: &Op) -> bool
     }
 }
 
-/// The blocks that these steps write or revoke, each once, in the order of the first touches. It fails where
-/// memory runs out.
+/// The blocks that these steps write or revoke, each once, in the order of first touches. Fails if memory runs out.
 pub fn touched(alloc: Global, steps: &[Step]) -> Result<Items<BlockNo>, AllocError>
     ensures { IfOk result (λ blocks. blocks ≡ touched steps.now) }
 {
@@ -55,8 +51,7 @@ pub fn touched(alloc: Global, steps: &[Step]) -> Result<Items<BlockNo>, AllocErr
     Ok(blocks)
 }
 
-/// The entries of these steps: each block that they touch, with their effect on it. It fails where memory runs
-/// out.
+/// The entries of these steps: each block that they touch, with their effect on it. Fails if memory runs out.
 pub fn entries(alloc: Global, steps: &[Step]) -> Result<Items<(BlockNo, Entry)>, AllocError>
     ensures { IfOk result (λ list. list ≡ entries steps.now) }
 {
@@ -70,7 +65,7 @@ pub fn entries(alloc: Global, steps: &[Step]) -> Result<Items<(BlockNo, Entry)>,
     Ok(list)
 }
 
-/// The last effect on a block in these transactions. It fails where memory runs out.
+/// The last effect on a block in these transactions. Fails if memory runs out.
 pub fn last_effect(history: &[Sealed], block: BlockNo) -> Result<Option<Entry>, AllocError>
     ensures { IfOk result (λ entry. entry ≡ last_effect block history.now) }
 {
@@ -81,7 +76,6 @@ pub fn last_effect(history: &[Sealed], block: BlockNo) -> Result<Option<Entry>, 
     Ok(last)
 }
 
-/// What a block is where this was last left of it.
 fn content_of(entry: Option<Entry>) -> Content
     ensures { result ≡ content_of entry }
 {
@@ -91,8 +85,7 @@ fn content_of(entry: Option<Entry>) -> Content
     }
 }
 
-/// What a block is after the first `n` transactions, or after all of them where there are fewer. It fails where
-/// memory runs out.
+/// The content of a block after the first `n` transactions, or after all if there are fewer. Fails if memory runs out.
 pub fn after(history: &[Sealed], n: usize, block: BlockNo) -> Result<Content, AllocError>
     ensures { IfOk result (λ content. content ≡ after history.now n block) }
 {

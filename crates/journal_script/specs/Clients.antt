@@ -25,7 +25,7 @@ client_word (Touches (Revoke block)) = codes "revoke"
 client_word Stop = codes "stop"
 client_word Wait = codes "wait"
 
--- the values after that word: the credits or the block number, and the bytes in hex digits
+-- the values after that word: credits or a block number, and bytes in hex digits
 abbrev pub AreClientArguments : ClientOperation → List Data → Type 0
 AreClientArguments (Start credits) values = values ≡ number_value credits ∷ []
 AreClientArguments (Touches (Write block bytes)) values = (hex : Data) × IsHexOf bytes.items hex × (values ≡ number_value block ∷ hex ∷ [])
@@ -71,7 +71,7 @@ pub record HasClients (value : Data) (clients : List (List ClientHandle)) : Type
   pub listed : get (codes "clients") value ≡ Some (list_value lists)
   pub are : AllZip IsClient clients lists
 
--- the text is JSON, whose value has these clients and agrees with these measures; absent keys have the defaults
+-- the text is JSON, whose value has these clients and measures; absent keys have the defaults
 pub record IsClientScriptOf (text : List ℕ) (script : ClientScript) : Type 0 where
   pub value : Data
   pub is : read text ≡ Some value
@@ -91,8 +91,8 @@ HasTouched touches blocks = All (λ t. Contains blocks (touched t)) touches
 abbrev pub HasTouchedAll : List ClientHandle → List ℕ → Type 0
 HasTouchedAll handles blocks = All (λ h. HasTouched h.touches.items blocks) handles
 
--- A journal of this capacity, over a home of so many blocks, can serve the handle. It asks for no more credits than the capacity, and for
--- as many as it touches different blocks, all of which exist.
+-- A journal of this capacity can serve the handle: it asks for no more credits, and for as many as it touches different blocks, all of
+-- which exist.
 pub record IsServable (capacity home_blocks : ℕ) (handle : ClientHandle) : Type 0 where
   pub few : handle.credits ≤ capacity
   pub there : All (λ t. touched t < home_blocks) handle.touches.items

@@ -34,7 +34,7 @@ pub record IsHexOf (bytes : List ℕ) (value : Data) : Type 0 where
   pub is : value ≡ string digits
   pub decoded : decode_of digits ≡ Ok bytes
 
--- the values after an operation's name: its handle, its credits or its block number, and its bytes in hex digits
+-- the values after an operation's name: its handle, its credits or block number, and its bytes in hex digits
 abbrev pub AreArguments : Operation → List Data → Type 0
 AreArguments (Start name credits) values = values ≡ number_value name ∷ number_value credits ∷ []
 AreArguments (Write name block bytes) values = (hex : Data) × IsHexOf bytes.items hex × (values ≡ number_value name ∷ number_value block ∷ hex ∷ [])
@@ -96,7 +96,7 @@ pub record IsDefaultElse (script : Data) (m : Measures) : Type 0 where
   pub uuid : IsElse (get (key_name Uuid) script) (m.uuid ≡ replicate 16 0xaa)
   pub wide : IsElse (get (key_name Wide) script) (m.wide ≡ false)
 
--- the text is JSON, whose value has these operations and agrees with these measures
+-- the text is JSON, whose value has these operations and measures
 pub record IsTextOf (text : List ℕ) (operations : List Operation) (measures : Measures) : Type 0 where
   pub script : Data
   pub is : read text ≡ Some script

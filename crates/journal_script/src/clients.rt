@@ -71,7 +71,6 @@ pub enum ClientOperation {
     Wait,
 }
 
-/// Why a value is no operation of a client, or one that can't stand there.
 #[derive(Clone, Copy)]
 enum Unfit {
     Bad(ClientFault),
@@ -206,11 +205,11 @@ fn note_block(block: BlockNo, blocks: &mut BTreeSet<u64>) -> Result<(), AllocErr
 ///
 /// # Errors
 ///
-/// `BadScript`, for the text: no JSON object; no key `clients` with a list of 1 to 64 lists of at most 100,000 operations in all; a key
-/// that is neither that nor one of `run`'s for a device; such a key outside its limits. For an operation: not of the form `["start", n]`,
-/// `["write", b, hex]`, `["revoke", b]`, `["stop"]` or `["wait"]`; a start while a handle is open; a touch or a stop while none is; a
-/// `wait` that does not follow a `stop`; a client that ends with an open handle; more credits than a transaction of this log can have, or
-/// fewer than the handle touches blocks; a block that home lacks. `Memory`.
+/// `BadScript`, for the text: no JSON object; no key `clients` with 1 to 64 lists of at most 100,000 operations in all; a key that is
+/// neither that nor one of `run`'s for a device; such a key outside its limits. For an operation: not `["start", n]`, `["write", b, hex]`,
+/// `["revoke", b]`, `["stop"]` or `["wait"]`; a start while a handle is open; a touch or a stop while none is; a `wait` that does not
+/// follow a `stop`; no stop at the end; more credits than a transaction of this log can have, or fewer than the handle touches blocks; a
+/// block that home lacks. `Memory`.
 pub fn read_clients(alloc: Global, text: &[u8]) -> Result<ClientScript, ScriptError>
     ensures measures { IfOk result (λ script. AreLimited script.measures) }
     ensures some { IfOk result (λ script. 0 < vec_len script.clients) }
@@ -238,7 +237,6 @@ fn is_client_key(name: &str) -> bool {
     KEYS.contains(&name)
 }
 
-/// The script of an object with these members.
 fn read_client_members(
     alloc: Global,
     value: &Value,
@@ -259,7 +257,6 @@ fn read_client_members(
     Ok(ClientScript { measures, clients })
 }
 
-/// The limits for handles on a device of these measures.
 fn limits_of(measures: &Measures) -> Limits
     requires { AreLimited measures.now }
     ensures home { result.home_blocks ≡ measures.now.home_blocks }
@@ -311,7 +308,6 @@ fn read_all(
     Ok(clients)
 }
 
-/// The operations of a client, at most `most`.
 fn operations_in(list: &Value, most: usize) -> Result<&[Value], ScriptError>
     ensures few { IfOk result (λ operations. length operations.now ≤ most) }
     ensures is { IfOk result (λ operations. view list.now ≡ list_value (map view operations.now)) }
@@ -322,7 +318,6 @@ fn operations_in(list: &Value, most: usize) -> Result<&[Value], ScriptError>
     }
 }
 
-/// The handles of the client with this number.
 fn read_client(
     alloc: Global,
     operations: &[Value],
@@ -359,7 +354,6 @@ fn bad_client(client: usize, place: usize, unfit: Unfit) -> ScriptError {
     }
 }
 
-/// Reads one more operation.
 fn read_next(
     alloc: Global,
     value: &Value,
@@ -436,7 +430,6 @@ fn stopped(alloc: Global, reading: Reading, limits: Limits) -> Result<Reading, U
     })
 }
 
-/// Fails if a handle touches more blocks than it has credits.
 fn require_credits(alloc: Global, handle: &OpenHandle) -> Result<(), Unfit>
     ensures { OnOk result (HasCredits handle.now) }
 {
@@ -449,7 +442,7 @@ fn require_credits(alloc: Global, handle: &OpenHandle) -> Result<(), Unfit>
     }
 }
 
-/// Lets the client wait for the last handle, which is stopped.
+/// Notes that the client waits for the last handle, which is stopped.
 fn awaited(reading: Reading, limits: Limits) -> Result<Reading, Unfit>
     requires { AreServable limits.capacity limits.home_blocks reading }
     ensures servable { IfOk result (AreServable limits.capacity limits.home_blocks) }
@@ -506,7 +499,6 @@ fn plain_operation(name: &Value) -> Result<ClientOperation, Unfit>
     }
 }
 
-/// An operation with a number, of credits or of a block.
 fn number_operation(name: &Value, number: &Value, limits: Limits) -> Result<ClientOperation, Unfit>
     ensures named { IfOk result (λ operation. as_str (view name.now) ≡ Some (client_word operation)) }
     ensures arguments { IfOk result (λ operation. AreClientArguments operation (view number.now ∷ [])) }

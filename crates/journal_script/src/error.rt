@@ -24,15 +24,15 @@ pub enum BadScript {
     NoObject,
     /// It has this key, which scripts lack.
     UnknownKey(String),
-    /// It lacks this key, or the key's value is none of those allowed.
+    /// It lacks this key, or the key has none of its values.
     Key(Key),
-    /// The blocks of its home area exceed the limits for block numbers of 64 bits.
+    /// The blocks of its home area exceed the limit for block numbers of 64 bits.
     WideHome,
-    /// One of its keys does not agree with the device at hand.
+    /// A key disagrees with the device at hand.
     Disagrees(Disagreement),
     /// This operation is none, or can't stand there.
     Operation(BadOperation),
-    /// Its list of clients is missing, empty or too long, has an element that is no list, or has too many operations.
+    /// Its list of clients is missing, empty or too long, has an element that is no list, or too many operations.
     Clients,
     /// An operation of a client is none or can't stand there, or a client ends too early.
     Client(BadClient),
@@ -54,7 +54,7 @@ pub struct Disagreement {
 pub struct BadClient {
     /// The client's number, from 1.
     pub client: usize,
-    /// The operation's number in the client's list, from 1.
+    /// The operation's number among the client's, from 1.
     pub number: usize,
     /// What is wrong.
     pub fault: ClientFault,
@@ -75,7 +75,7 @@ pub enum ClientFault {
     TooManyCredits,
     /// The handle touches more blocks than it has credits.
     TooFewCredits,
-    /// It does not follow the stop of a handle that is not waited for yet.
+    /// It follows no stop of a handle that is not waited for yet.
     NothingToWaitFor,
     /// The client ends with an open handle.
     StaysOpen,

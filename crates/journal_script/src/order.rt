@@ -34,7 +34,7 @@ impl fmt::Display for Misplaced {
     }
 }
 
-/// The state after an operation that names the handle; `None` if the operation needs another state.
+/// The state after an operation; `None` if the operation needs another state.
 fn state_behind(state: State, operation: &Operation) -> Option<State> {
     match (operation, state) {
         (Operation::Start(..), State::Unused | State::Stopped) => Some(State::Open),
@@ -50,7 +50,7 @@ fn state_behind(state: State, operation: &Operation) -> Option<State> {
     }
 }
 
-/// Notes the operation in the states; notes nothing if it needs another state.
+/// Notes the operation in the states, if its handle is in the right one.
 fn follow(states: &mut [State], operation: &Operation) -> Result<(), Misplaced> {
     let Some(handle) = operation.handle() else {
         return Ok(());

@@ -36,8 +36,7 @@ pub(crate) enum Unread {
 /// # Errors
 ///
 /// `BadScript`: no JSON object; no key `ops` with a list of at most 100,000 operations; a key other than that and `block`, `length`,
-/// `home`, `uuid` and `wide`; one of these outside its limits; an operation of another form, or one that names a handle in the wrong state.
-/// `Memory`.
+/// `home`, `uuid` and `wide`, or outside its limits; an operation of another form, or with a handle in the wrong state. `Memory`.
 pub fn read(alloc: Global, text: &[u8]) -> Result<Script, ScriptError>
     ensures operations { IfOk result (λ script. length script.operations.items ≤ 100_000) }
     ensures measures { IfOk result (λ script. AreLimited script.measures) }
@@ -51,7 +50,7 @@ pub fn read(alloc: Global, text: &[u8]) -> Result<Script, ScriptError>
     }
 }
 
-/// Reads the operations of a script for a device at hand. Keys that describe a device must agree with it, if they are present.
+/// Reads the operations of a script for a device at hand. Its keys for a device must agree with it.
 ///
 /// # Errors
 ///
@@ -96,7 +95,6 @@ fn require_device(alloc: Global, value: &Value, device: &Measures) -> Result<(),
     require_width(alloc, value, device.wide)
 }
 
-/// Fails if a key is present with another number.
 fn require_number(alloc: Global, value: &Value, key: Key, number: u64) -> Result<(), ScriptError>
     ensures { OnOk result (IsAt (get (key_name key) (view value.now)) (number_value number)) }
 {
@@ -128,7 +126,6 @@ fn disagrees(
     }
 }
 
-/// Fails if a different UUID is present.
 fn require_uuid(alloc: Global, value: &Value, uuid: &[u8; 16]) -> Result<(), ScriptError>
     ensures { OnOk result (IfSome (get (key_name Uuid) (view value.now)) (IsHexOf uuid.now)) }
 {
@@ -146,7 +143,6 @@ fn require_uuid(alloc: Global, value: &Value, uuid: &[u8; 16]) -> Result<(), Scr
     }
 }
 
-/// A UUID as a script has it.
 fn quoted_digits(alloc: Global, uuid: &[u8; 16]) -> Result<String, AllocError> {
     let mut text = format!(in alloc; "\"")?;
     for byte in uuid {
@@ -156,7 +152,6 @@ fn quoted_digits(alloc: Global, uuid: &[u8; 16]) -> Result<String, AllocError> {
     Ok(text)
 }
 
-/// Fails if a different width is present.
 fn require_width(alloc: Global, value: &Value, wide: bool) -> Result<(), ScriptError>
     ensures { OnOk result (IsAt (get (key_name Wide) (view value.now)) (boolean wide)) }
 {
@@ -194,7 +189,6 @@ fn bad_key(key: Key) -> ScriptError {
     ScriptError::BadScript(BadScript::Key(key))
 }
 
-/// The script of an object with these members.
 fn read_members(
     alloc: Global,
     value: &Value,
@@ -215,7 +209,6 @@ fn read_members(
     })
 }
 
-/// The operations of a list, with handles in the right state.
 fn read_ordered(
     alloc: Global,
     list: &[Value],
@@ -236,7 +229,6 @@ fn read_ordered(
     }
 }
 
-/// The error for an operation at this place of its list.
 fn bad_operation(
     alloc: Global,
     place: usize,
@@ -253,7 +245,7 @@ fn bad_operation(
     }
 }
 
-/// The beginning of a value's text, or all of it if it is short.
+/// The beginning of a value's text, or all if it is short.
 fn text_of(alloc: Global, value: Option<&Value>) -> Result<String, AllocError> {
     let Some(value) = value else {
         return Ok(String::new(alloc));
@@ -434,7 +426,6 @@ fn name_of(value: &Value) -> Result<OperationName, Unread>
     }
 }
 
-/// The operation with this name and these arguments.
 fn operation_called(
     alloc: Global,
     name: OperationName,
@@ -485,7 +476,6 @@ fn handle_operation(name: OperationName, handle: &Value) -> Result<Operation, Un
     }
 }
 
-/// An operation with two arguments: a direct write, or a handle and a number.
 fn pair_operation(
     alloc: Global,
     name: OperationName,
@@ -516,7 +506,6 @@ fn direct_operation(
     Ok(Operation::WriteDirect(block, bytes))
 }
 
-/// An operation with a handle and a number, of credits or of a block.
 fn number_operation(
     name: OperationName,
     handle: &Value,

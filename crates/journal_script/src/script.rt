@@ -78,7 +78,7 @@ pub struct NamedBlocks {
     pub directs: BTreeSet<u64>,
 }
 
-/// A script. Its operations have the right forms, and name handles in the right state.
+/// A script: its operations have the right forms, and name handles in the right state.
 #[derive(Drop)]
 pub struct Script {
     /// The measures of its device.

@@ -38,7 +38,7 @@ pub fn expect<T: PartialEq + Debug>(rt: &impl Abort, told: &T, expected: &T) {
     assert_eq!(rt; told, expected);
 }
 
-/// Fills a block with a byte, if it exists.
+/// Fills a block, if it exists.
 pub(crate) fn write<D: Device>(
     device: &mut D,
     area: Area,
@@ -72,7 +72,7 @@ fn reads_all<D: Device>(device: &mut D, area: Area, bytes: &[u8]) -> bool {
     device.blocks(area) == bytes.len() as u64
 }
 
-/// Makes the call of a step, and returns whether its result is the expected one.
+/// Makes a step's call; whether its result is the expected one.
 fn is_so<D: Device>(device: &mut D, step: &Step) -> bool {
     match *step {
         Step::Has(area, blocks) => device.blocks(area) == blocks,
@@ -88,7 +88,7 @@ fn is_so<D: Device>(device: &mut D, step: &Step) -> bool {
     }
 }
 
-/// The place of the first step with another result.
+/// The first step with another result.
 pub fn first_wrong<D: Device>(device: &mut D, steps: &[Step]) -> Option<usize> {
     for (n, step) in steps.iter().enumerate() {
         if !is_so(device, step) {

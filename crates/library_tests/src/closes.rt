@@ -1,4 +1,4 @@
-//! A close that has to finish a commit first asks for all its memory before its first device call. In the gate no request is refused:
+//! A close that finishes a commit asks for all its memory before its first device call. The gate refuses no request:
 //! `bench/refused_memory.py` runs this test once for each request, and refuses it.
 use crate::logs::{formatted, opened};
 use crate::newest::{change, journal_on};
@@ -12,13 +12,13 @@ use std::test::Fail;
 /// A journal whose record is kept as data.
 type Kept = Journal<MemDevice, Vec<Sealed>>;
 
-/// Blocks of the log, enough for a transaction of all blocks of the running one.
+/// Room for a transaction of all the running blocks.
 const LOG_BLOCKS: u32 = 129;
 
-/// The blocks of the running transaction: more than a journal's lists and tables hold before they grow.
+/// More blocks than a journal's lists and tables hold before they grow.
 const RUNNING: Range<u64> = 10..30;
 
-/// Writes a block, takes four turns of its commit, of which the first seals, and then writes other blocks.
+/// Writes a block, takes four turns of its commit, and writes other blocks.
 fn commit_beside(journal: &mut Kept) -> Result<(), JournalError> {
     let ticket = change(journal, 9, 7)?;
     journal.request(&ticket)?;
@@ -31,7 +31,6 @@ fn commit_beside(journal: &mut Kept) -> Result<(), JournalError> {
     Ok(())
 }
 
-/// A journal with a commit under way, and blocks in the next transaction.
 fn with_a_commit_under_way(alloc: Global) -> Result<Kept, JournalError> {
     let opened = opened(alloc, formatted(alloc, LOG_BLOCKS, 64)?)?;
     let mut journal = journal_on(alloc, opened)?;
@@ -39,12 +38,11 @@ fn with_a_commit_under_way(alloc: Global) -> Result<Kept, JournalError> {
     Ok(journal)
 }
 
-/// How many transactions are sealed, how many are committed, and how many writes the device was given.
+/// How many transactions are sealed and committed, and how many writes were made.
 fn counts(parts: &Parts<MemDevice, Vec<Sealed>>) -> (usize, u64, u64) {
     (parts.sealed.len(), parts.committed, parts.device.writes())
 }
 
-/// The counts without a close.
 fn unclosed(alloc: Global) -> Result<(usize, u64, u64), JournalError> {
     Ok(counts(&with_a_commit_under_way(alloc)?.into_parts()))
 }
@@ -64,7 +62,7 @@ fn closed(alloc: Global) -> Result<(Option<JournalError>, (usize, u64, u64)), Jo
     }
 }
 
-/// Prints the result of the close, if there was memory for what comes before it.
+/// Prints the result of the close, if there was memory to come to it.
 #[test]
 fn a_close_takes_its_memory_before_its_first_call(rt: HostRuntime) -> Result<(), Fail> {
     let (Ok(before), Ok((refusal, left))) = (unclosed(rt.alloc()), closed(rt.alloc())) else {

@@ -17,7 +17,7 @@ pub fn shown(entry: Option<&Entry>) -> Option<u8> {
     }
 }
 
-/// A block's newer entry, its entry in the running transaction, and its entry in the committing one.
+/// The block's newer entry, its running one, and its committing one.
 type Entries = [Option<u8>; 3];
 
 fn looked_up(cache: &VersionCache) -> Entries {
@@ -28,14 +28,13 @@ fn looked_up(cache: &VersionCache) -> Entries {
     ]
 }
 
-/// Writes a copy that begins with this byte.
 fn write(alloc: Global, cache: &mut VersionCache, byte: u8) -> Result<(), AllocError>
     ensures { cache.new.committing ≡ cache.old.committing }
 {
     cache.write(BLOCK, Entry::Copy(Block::copy_of(alloc, &[byte])?))
 }
 
-/// The entries after a write, and after its seal.
+/// After a write, and after its seal.
 fn written_and_sealed(alloc: Global, cache: &mut VersionCache) -> Result<[Entries; 2], AllocError>
     requires { cache.old.committing ≡ [] }
 {
@@ -45,7 +44,7 @@ fn written_and_sealed(alloc: Global, cache: &mut VersionCache) -> Result<[Entrie
     Ok([written, looked_up(cache)])
 }
 
-/// The entries after a write and after a revoke, while the previous transaction is being committed.
+/// After a write and after a revoke, during the previous commit.
 fn written_and_revoked(
     alloc: Global,
     cache: &mut VersionCache,
@@ -56,7 +55,7 @@ fn written_and_revoked(
     Ok([written, looked_up(cache)])
 }
 
-/// The entries after the commit, after the next seal, and after the next commit.
+/// After the commit, the next seal, and the next commit.
 fn finished_and_sealed(cache: &mut VersionCache) -> [Entries; 3] {
     cache.finish();
     let finished = looked_up(cache);
@@ -66,7 +65,6 @@ fn finished_and_sealed(cache: &mut VersionCache) -> [Entries; 3] {
     [finished, sealed, looked_up(cache)]
 }
 
-/// The entries at each of these steps.
 fn shown_by_turns(alloc: Global, cache: &mut VersionCache) -> Result<[Entries; 7], AllocError>
     requires { cache.old.committing ≡ [] }
 {
@@ -92,7 +90,7 @@ fn a_block_is_written_while_it_is_being_committed(rt: HostRuntime) -> Result<(),
     Ok(())
 }
 
-/// How many hold a block's bytes after the seal of their transaction, and after its commit.
+/// How many hold a block's bytes after its seal, and after its commit.
 fn holders(alloc: Global, cache: &mut VersionCache) -> Result<(usize, usize), AllocError>
     requires { cache.old.committing ≡ [] }
 {
@@ -104,7 +102,7 @@ fn holders(alloc: Global, cache: &mut VersionCache) -> Result<(usize, usize), Al
     Ok((sealed, written.holders()))
 }
 
-/// A seal copies no bytes: the copy that it hands over shares them with the written one.
+/// A seal hands over the bytes without a copy.
 #[test]
 fn a_seal_shares_the_bytes(rt: HostRuntime) -> Result<(), Fail> {
     let told = holders(rt.alloc(), &mut VersionCache::new(rt.alloc()));

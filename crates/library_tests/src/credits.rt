@@ -10,7 +10,7 @@ use std::sync::atomic::{AtomicU64, Ordering};
 use std::test::Fail;
 use std::thread::{Threads, join};
 
-/// The number of the refusal of n credits, or 0; then they are given back.
+/// The refusal's number, or 0; granted credits are given back.
 fn refusal<J: JournalName>(pool: &CreditPool<J>, seat: &mut Seat<J>, n: u64) -> u8 {
     match pool.reserve(seat, n) {
         Ok(credits) => {
@@ -21,7 +21,7 @@ fn refusal<J: JournalName>(pool: &CreditPool<J>, seat: &mut Seat<J>, n: u64) -> 
     }
 }
 
-/// Credits of a pool of 6 are reserved, joined, split and given back.
+/// Reserves, joins, splits and gives back credits of a pool of 6.
 fn credits<J: JournalName, R: Abort>(rt: &R, pool: &CreditPool<J>, seat: &mut Seat<J>) {
     let too_many = refusal(pool, seat, 7);
     let Ok(mut first) = pool.reserve(seat, 3) else {
@@ -44,7 +44,7 @@ fn credits<J: JournalName, R: Abort>(rt: &R, pool: &CreditPool<J>, seat: &mut Se
     expect(rt, &told, &(6, [5, 0], 0, [4, 2], [6, 6, 4, 0]));
 }
 
-/// A handle of transaction 2 stops, and asks whether it is committed; the mark is 1 at first. Its credits are held with those of its entry.
+/// A handle of transaction 2 stops and asks whether it is committed; the mark is 1. Its credits are held with its entry's.
 fn answers<J: JournalName, R: Abort>(
     rt: &R,
     pool: &CreditPool<J>,
@@ -74,7 +74,7 @@ fn answers<J: JournalName, R: Abort>(
     asks(rt, mark, raiser, seat, ticket);
 }
 
-/// A ticket of transaction 2 asks before and after the mark reaches it.
+/// Asks before and after the mark reaches transaction 2.
 fn asks<J: JournalName, R: Abort>(
     rt: &R,
     mark: &CommitMark<J>,
@@ -103,7 +103,7 @@ fn asks<J: JournalName, R: Abort>(
 /// How often each thread reserves.
 const ROUNDS: u64 = 1_000_000;
 
-/// Reserves 4 of 6 credits over and over, and counts the granted ones in `held`. Returns whether it was never more than 4.
+/// Reserves 4 of 6 credits over and over. Returns whether `held` never exceeded 4.
 fn hammer<J: JournalName>(pool: &CreditPool<J>, mut seat: Seat<J>, held: &AtomicU64) -> bool {
     let mut within = true;
     for _ in 0..ROUNDS {
@@ -116,7 +116,6 @@ fn hammer<J: JournalName>(pool: &CreditPool<J>, mut seat: Seat<J>, held: &Atomic
     within
 }
 
-/// Two threads reserve and give back at once; then the word is as before.
 fn two_at_once<J: JournalName + Send + Sync, R: Threads + Abort + Sync>(
     rt: &R,
     pool: &CreditPool<J>,
@@ -135,7 +134,6 @@ fn two_at_once<J: JournalName + Send + Sync, R: Threads + Abort + Sync>(
     expect(rt, &(one && other, left), &(true, (0, 0)));
 }
 
-/// All of these on one board of 6 credits.
 fn on_board<J: JournalName + Send + Sync, R: Threads + Abort + Sync>(rt: &R, laid: LaidBoard)
     requires { (laid.board ≡ J.name.board) × (laid.capacity ≡ J.name.capacity) }
 {

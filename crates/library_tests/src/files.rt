@@ -38,7 +38,6 @@ fn open(rt: &HostRuntime, path: &str) -> io::Result<File> {
     OpenOptions::new().read(true).write(true).open(rt, path)
 }
 
-/// Makes a file, and opens it.
 fn make_at(rt: &HostRuntime, path: &str, made: &Made) -> io::Result<File> {
     match made {
         Made::Written(bytes) => {
@@ -53,12 +52,10 @@ fn make_at(rt: &HostRuntime, path: &str, made: &Made) -> io::Result<File> {
     }
 }
 
-/// Makes a file in a folder, and opens it.
 fn make(rt: &HostRuntime, folder: &str, name: &str, made: &Made) -> io::Result<File> {
     make_at(rt, path_of(rt, folder, name)?.as_str(), made)
 }
 
-/// Makes and opens the file `home` of a folder, if there is to be one.
 fn make_home(rt: &HostRuntime, folder: &str, home: Option<&Made>) -> io::Result<Option<File>> {
     match home {
         Some(home) => Ok(Some(make(rt, folder, "home", home)?)),
@@ -66,13 +63,12 @@ fn make_home(rt: &HostRuntime, folder: &str, home: Option<&Made>) -> io::Result<
     }
 }
 
-/// Makes an empty folder.
 fn make_folder(rt: &HostRuntime, folder: &str) -> io::Result<()> {
     let _ = fs::remove_dir_all(rt, folder);
     fs::create_dir(rt, folder)
 }
 
-/// A device over the files `log` and `home`, alone in this folder.
+/// A device over the files `log` and `home` in a new folder.
 pub fn device_over(
     rt: &HostRuntime,
     folder: &str,
@@ -97,7 +93,7 @@ pub fn holds(rt: &HostRuntime, folder: &str, name: &str, bytes: &[u8]) -> io::Re
     holds_at(rt, path_of(rt, folder, name)?.as_str(), bytes)
 }
 
-/// Whether the files of a case hold what they should after its calls.
+/// Whether the files of a case hold what they should.
 fn hold(rt: &HostRuntime, case: &Case) -> bool {
     for (name, bytes) in case.files {
         if !matches!(holds(rt, case.folder, name, bytes), Ok(true)) {
@@ -107,14 +103,14 @@ fn hold(rt: &HostRuntime, case: &Case) -> bool {
     true
 }
 
-/// The result of a case: the place of the first step with another result; whether other handles saw the files' expected bytes while the
-/// device existed; and whether they did after it was dropped.
+/// The first step with another result; whether other handles saw the expected bytes while the device existed; and whether they did after it
+/// was dropped.
 pub type Told = (Option<usize>, bool, bool);
 
 /// All is as expected.
 pub const RIGHT: Told = (None, true, true);
 
-/// Makes the calls of a case and drops its device. Returns the first two parts of the result.
+/// Makes the calls of a case, and drops its device.
 fn call(
     rt: &HostRuntime,
     device: FileDevice<UnknownContents>,
@@ -136,7 +132,7 @@ fn device_of(rt: &HostRuntime, case: &Case) -> io::Result<FileDevice<UnknownCont
     device_over(rt, case.folder, SIZE, &case.log, case.home.as_ref())
 }
 
-/// Makes the device of a case and its calls. Returns the result.
+/// Makes a case's device and its calls.
 pub fn told(rt: &HostRuntime, case: &Case) -> io::Result<Told> {
     called(rt, device_of(rt, case)?, case)
 }
@@ -246,19 +242,18 @@ fn a_flush_of_the_log_syncs_its_file(rt: HostRuntime) -> Result<(), Fail> {
     Ok(())
 }
 
-/// Cuts the log of a case to six bytes.
 fn cut_log(rt: &HostRuntime, case: &Case) -> io::Result<()> {
     open(rt, path_of(rt, case.folder, "log")?.as_str())?.set_len(6)
 }
 
-/// The result of a case whose log is cut after its device is made.
+/// Runs a case whose log is cut once its device exists.
 fn told_once_cut(rt: &HostRuntime, case: &Case) -> io::Result<Told> {
     let device = device_of(rt, case)?;
     cut_log(rt, case)?;
     called(rt, device, case)
 }
 
-/// Another handle removed half of the second block, so that a read of it meets the end of the file.
+/// Another handle cut the log within its second block, so that a read of it meets the end of the file.
 #[test]
 fn after_a_failed_read_the_device_goes_on(rt: HostRuntime) -> Result<(), Fail> {
     const CASE: Case = Case {
@@ -279,7 +274,7 @@ fn after_a_failed_read_the_device_goes_on(rt: HostRuntime) -> Result<(), Fail> {
     Ok(())
 }
 
-/// What the device reports of its failure, after a write to home.
+/// What the device reports after a failed write to home.
 fn told_failure(rt: &HostRuntime, folder: &str, home: &Made) -> Result<String, Fail> {
     let log = Made::Written(b"aaaabbbb");
     let mut device = device_over(rt, folder, SIZE, &log, Some(home))?;
@@ -307,10 +302,9 @@ fn a_failure_tells_what_the_system_answered(rt: HostRuntime) -> Result<(), Fail>
 /// Bytes of a log's largest block.
 const LARGEST: usize = 4096;
 
-/// Bytes of a log of three such blocks.
 const THREE: usize = 3 * LARGEST;
 
-/// A log whose block 1 has consecutive bytes, and whose other blocks are zeros.
+/// A log of zeros, but for consecutive bytes in block 1.
 fn one_written_block() -> [u8; THREE] {
     let mut log = [0; THREE];
     let mut byte = 0u8;
@@ -321,7 +315,7 @@ fn one_written_block() -> [u8; THREE] {
     log
 }
 
-/// Writes block 1 of a log. Returns whether the device reads it back.
+/// Writes block 1; whether it reads back.
 fn reads_as_written<D: Device>(device: &mut D, block: &[u8]) -> bool {
     let mut read = [0xff; LARGEST];
     device.block_size() == LARGEST
@@ -333,7 +327,7 @@ fn reads_as_written<D: Device>(device: &mut D, block: &[u8]) -> bool {
         && read.as_slice() == block
 }
 
-/// Whether block 1 of a log of zeros reads as written, and whether the file holds it so.
+/// Whether the device, and then the file, has block 1 as written.
 fn written_whole(rt: &HostRuntime, folder: &str, log: &[u8; THREE]) -> io::Result<(bool, bool)> {
     let zeros = Made::Written(&[0; THREE]);
     let mut device = device_over(rt, folder, LARGEST, &zeros, None)?;

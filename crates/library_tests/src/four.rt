@@ -1,5 +1,5 @@
-//! Four threads write, read, revoke, write directly and audit over one journal. After its close the record is judged as data, and the home
-//! area by the record.
+//! Four threads write, read, revoke, write directly and audit over one journal. After its close the record is judged as data, and home by
+//! the record.
 ghost use Rattle.std.specs.Prelude.{◌≡◌};
 
 use crate::bytes::expect;
@@ -17,10 +17,9 @@ use std::thread::{self, Threads, join};
 /// How often all four run.
 const RUNS: u64 = 100;
 
-/// How many handles each thread has, one after another.
+/// Handles of each thread.
 const HANDLES: u8 = 6;
 
-/// How many handles all four have.
 const ALL_HANDLES: u64 = 24;
 
 /// How often a thread asks again if it must wait.
@@ -35,7 +34,7 @@ const SHARED: u64 = 40;
 /// The first of four blocks, each of which one thread writes directly.
 const DIRECT: u64 = 50;
 
-/// Takes a commit turn, or a checkpoint turn if the log is full. Returns false if it is refused for good.
+/// Takes a commit turn, or a checkpoint turn if the log is full. False if refused for good.
 fn take_turn<J: JournalName, D: Device, K: Record, R: Wait>(
     rt: &R,
     journal: &Journal<J, D, K>,
@@ -47,7 +46,7 @@ fn take_turn<J: JournalName, D: Device, K: Record, R: Wait>(
     }
 }
 
-/// Starts a handle of three credits. Without room for it, locks the running transaction and takes turns.
+/// Starts a handle of three credits; if there is no room, locks the running transaction and takes turns.
 fn start<'a, J: JournalName, D: Device, K: Record, R: Wait>(
     rt: &R,
     journal: &'a Journal<J, D, K>,
@@ -68,8 +67,8 @@ fn start<'a, J: JournalName, D: Device, K: Record, R: Wait>(
     None
 }
 
-/// The steps of one handle: it writes the thread's own block and the shared one, reads its own, and revokes one. Returns whether each was
-/// done, and the own block reads as written.
+/// Writes the thread's own block and the shared one, reads its own, and revokes one. Whether all was done, and the own block reads as
+/// written.
 fn touch<J: JournalName, D: Device, K: Record, R: Wait>(
     rt: &R,
     journal: &Journal<J, D, K>,
@@ -120,8 +119,7 @@ fn see_through<J: JournalName, D: Device, K: Record, R: Wait>(
     false
 }
 
-/// The work of one thread: its handles write, read and revoke, and it waits for every other one; then it writes a block directly. Returns
-/// whether all was done.
+/// The work of one thread: its handles, every other one waited for, and a direct write. Whether all was done.
 fn work<J: JournalName, D: Device, K: Record, R: Wait>(
     rt: &R,
     journal: &Journal<J, D, K>,
@@ -146,7 +144,6 @@ fn work<J: JournalName, D: Device, K: Record, R: Wait>(
         && journal.sync_direct(rt).is_ok()
 }
 
-/// The first two threads at once.
 fn first_two<
     J: JournalName + Send + Sync,
     D: Device + Send,
@@ -161,7 +158,6 @@ fn first_two<
     one && two
 }
 
-/// The last two at once.
 fn last_two<
     J: JournalName + Send + Sync,
     D: Device + Send,
@@ -191,7 +187,7 @@ fn all_four<
     first && last
 }
 
-/// The bytes of a block after these steps, if the last step that is no read wrote it.
+/// A block's bytes after these steps, if their last write or revoke of it is a write.
 fn last_write(steps: &[Step], block: BlockNo) -> Option<&[u8]> {
     let mut last = None;
     for step in steps.iter() {
@@ -206,7 +202,7 @@ fn last_write(steps: &[Step], block: BlockNo) -> Option<&[u8]> {
     last
 }
 
-/// Whether a read after these steps gave the bytes of the last write of its block, if there is one.
+/// Whether a read after these steps gave the last write of its block, if any.
 fn is_true_read(before: &[Step], step: &Step) -> bool {
     match (&step.op, last_write(before, step.block)) {
         (Op::Read(seen), Some(bytes)) => bytes == seen.bytes(),
@@ -214,7 +210,7 @@ fn is_true_read(before: &[Step], step: &Step) -> bool {
     }
 }
 
-/// Whether each read of a transaction gave the bytes of the last write of its block before it.
+/// Whether each read of a transaction gave the last write of its block before it, if any.
 fn is_legal(sealed: &Sealed) -> bool {
     let steps = sealed.steps.as_slice();
     let mut is_legal = true;
@@ -224,7 +220,6 @@ fn is_legal(sealed: &Sealed) -> bool {
     is_legal
 }
 
-/// How often a handle is in these transactions.
 fn times(sealed: &[Sealed], handle: HandleNo) -> u64 {
     let mut times: u64 = 0;
     for transaction in sealed.iter() {
@@ -237,7 +232,7 @@ fn times(sealed: &[Sealed], handle: HandleNo) -> u64 {
     times
 }
 
-/// Whether the record has each handle of the threads once, in legal transactions.
+/// Whether the record has each handle once, in legal transactions.
 fn is_whole(sealed: &[Sealed]) -> bool {
     let mut handles: u64 = 0;
     let mut is_whole = true;
@@ -251,7 +246,6 @@ fn is_whole(sealed: &[Sealed]) -> bool {
     is_whole && handles == ALL_HANDLES
 }
 
-/// Whether one of these steps writes or revokes a block.
 fn touches(steps: &[Step], block: BlockNo) -> bool {
     let mut touches = false;
     for step in steps.iter() {
@@ -260,7 +254,7 @@ fn touches(steps: &[Step], block: BlockNo) -> bool {
     touches
 }
 
-/// The bytes of a block's last copy in these transactions, if no revoke follows it.
+/// A block's last copy, if no revoke follows it.
 fn last_copy(sealed: &[Sealed], block: BlockNo) -> Option<&[u8]> {
     let mut last = None;
     for transaction in sealed.iter() {
@@ -272,7 +266,7 @@ fn last_copy(sealed: &[Sealed], block: BlockNo) -> Option<&[u8]> {
     last
 }
 
-/// The byte that fills a block without a copy in the record: what a thread wrote directly, or 0.
+/// What fills a block without a copy in the record: a thread's direct write, or 0.
 fn direct_byte(block: u64) -> u8 {
     match block {
         50 => 1,
@@ -283,7 +277,7 @@ fn direct_byte(block: u64) -> u8 {
     }
 }
 
-/// Whether a home block reads as the record says or, without a copy there, as direct writes left it.
+/// Whether a home block reads as the record says, or as direct writes left it.
 fn is_home(device: &mut MemDevice, sealed: &[Sealed], block: BlockNo) -> bool {
     let mut bytes = [0; 1024];
     if device.block_size() != 1024
@@ -298,7 +292,6 @@ fn is_home(device: &mut MemDevice, sealed: &[Sealed], block: BlockNo) -> bool {
     }
 }
 
-/// Whether what a journal left is what the four threads did.
 fn is_right(parts: Parts<MemDevice, Vec<Sealed>>) -> bool {
     let Parts {
         mut device,
@@ -312,7 +305,6 @@ fn is_right(parts: Parts<MemDevice, Vec<Sealed>>) -> bool {
     is_right
 }
 
-/// Four threads over a journal, which is then closed.
 fn worked<J: JournalName + Send + Sync, R: Threads + Wait + Abort + Sync>(
     rt: &R,
     laid: LaidJournal<MemDevice, Vec<Sealed>>,

@@ -38,8 +38,7 @@ fn what_is_gathered_is_written_when_the_device_is_let_go(rt: HostRuntime) -> Res
     Ok(())
 }
 
-/// A log that can't be written takes two blocks, and the flush of them fails. They are still read, and nothing is written or flushed any
-/// more.
+/// A log that can't be written takes two blocks, and their flush fails. They are still read, and nothing else is written or flushed.
 #[test]
 fn gathered_blocks_that_fail_are_read_from_the_device(rt: HostRuntime) -> Result<(), Fail> {
     const CASE: Case = Case {
@@ -79,7 +78,7 @@ fn a_write_elsewhere_fails_with_what_was_gathered(rt: HostRuntime) -> Result<(),
     Ok(())
 }
 
-/// Consecutive writes to one area, with writes to the other between them; then only home is flushed.
+/// Consecutive writes to one area alternate with writes to the other; then only home is flushed.
 #[test]
 fn writes_to_both_areas_by_turns_are_kept(rt: HostRuntime) -> Result<(), Fail> {
     const CASE: Case = Case {
@@ -109,7 +108,7 @@ fn writes_to_both_areas_by_turns_are_kept(rt: HostRuntime) -> Result<(), Fail> {
     Ok(())
 }
 
-/// The log is read through twice around a gathered write of block 2, and once after a flush.
+/// The log is read through around a gathered write of block 2, and again after a flush.
 #[test]
 fn a_log_that_is_gone_over_shows_what_is_gathered(rt: HostRuntime) -> Result<(), Fail> {
     const CASE: Case = Case {

@@ -1,5 +1,5 @@
-//! A handle writes and reads, and a read is made without one, while a device write of a commit or of a checkpoint round is held, and
-//! another thread waits for the engine.
+//! A handle writes and reads, and a read is made without one, while a device write of a commit or a checkpoint round is held and another
+//! thread waits for the engine.
 ghost use Rattle.std.specs.Prelude.{◌≡◌};
 
 use crate::bytes::expect;
@@ -18,10 +18,10 @@ use std::thread::{self, Threads, join};
 /// How often a thread looks before it gives up.
 const LOOKS: u32 = 2_000_000;
 
-/// How often it yields, so that the thread that asked for the engine's lock waits for it.
+/// Yields, so that another thread comes to wait for the engine's lock.
 const PAUSES: u32 = 10_000;
 
-/// Looks until the word is not 0. Returns whether it came to that.
+/// Looks until the word is not 0; whether it came to that.
 fn is_set(word: &AtomicU64) -> bool {
     for _ in 0..LOOKS {
         if word.load(Ordering::SeqCst) != 0 {
@@ -111,7 +111,7 @@ impl<D: Device, G: Gate> Device for HeldDevice<D, G> {
     }
 }
 
-/// Writes one block through a handle of its own. Returns the handle's ticket.
+/// Writes one block through a handle of its own.
 fn write_one<J: JournalName, D: Device, R: Wait>(
     rt: &R,
     journal: &Journal<J, D>,
@@ -132,7 +132,7 @@ fn write_one<J: JournalName, D: Device, R: Wait>(
     }
 }
 
-/// Writes one block, and takes commit turns until its transaction is committed. Returns whether it is.
+/// Writes one block, and takes turns until it is committed.
 fn commit_one<J: JournalName, D: Device, R: Wait>(
     rt: &R,
     journal: &Journal<J, D>,
@@ -154,7 +154,7 @@ fn commit_one<J: JournalName, D: Device, R: Wait>(
     false
 }
 
-/// The same, and takes checkpoint turns until nothing is left to be written home.
+/// The same, and takes turns until all is home.
 fn commit_and_checkpoint<J: JournalName, D: Device, R: Wait>(
     rt: &R,
     journal: &Journal<J, D>,
@@ -173,7 +173,7 @@ fn commit_and_checkpoint<J: JournalName, D: Device, R: Wait>(
     false
 }
 
-/// Once a write is held, reads a home block of which the front has no copy, and so waits for the engine. Returns whether it read.
+/// Once a write is held, reads a home block of which the front has no copy, and so waits for the engine.
 fn read_home<J: JournalName, D: Device, R: Wait>(
     rt: &R,
     journal: &Journal<J, D>,
@@ -194,8 +194,7 @@ fn read_home<J: JournalName, D: Device, R: Wait>(
     read.is_ok() && bytes[0] == 0
 }
 
-/// Writes one block through a handle of its own, and reads it and, if given, the one that is being committed; the front has both. Returns
-/// whether it read what was written.
+/// Writes a block through a handle, and reads it and, if given, the one that is being committed; the front has both.
 fn write_and_read<J: JournalName, D: Device, R: Wait>(
     rt: &R,
     journal: &Journal<J, D>,
@@ -220,7 +219,7 @@ fn write_and_read<J: JournalName, D: Device, R: Wait>(
     wrote.is_ok() && read.is_ok() && newest == 8 && read_other
 }
 
-/// Reads a block of which the front has a copy, without a handle. Returns whether the copy begins with this byte.
+/// Whether a block of which the front has a copy begins with this byte, by a read without a handle.
 fn begins_with<J: JournalName, D: Device, R: Wait>(
     rt: &R,
     journal: &Journal<J, D>,
@@ -235,8 +234,7 @@ fn begins_with<J: JournalName, D: Device, R: Wait>(
     read.is_ok() && bytes[0] == byte
 }
 
-/// Once a write is held and another thread waits for the engine, writes and reads through a handle, reads without one, and releases the
-/// held write. Returns whether that was done.
+/// Once a write is held and another thread waits for the engine, writes and reads with and without a handle, and releases the held write.
 fn overtake<J: JournalName, D: Device, R: Wait>(
     rt: &R,
     journal: &Journal<J, D>,
@@ -260,7 +258,6 @@ fn overtake<J: JournalName, D: Device, R: Wait>(
     done && newest && older
 }
 
-/// One thread reads a block that needs the engine, and another overtakes it.
 fn read_and_overtake<J: JournalName + Send + Sync, D: Device + Send, R: Threads + Wait + Sync>(
     rt: &R,
     journal: &Journal<J, D>,
@@ -334,8 +331,8 @@ fn is_overtaken<R: Threads + Wait + Abort + Sync>(
     Ok(())
 }
 
-/// The handle would wait for the held write, and the gate would give up, with one lock for front and engine, with a read that always takes
-/// both, or with a call that waits for the engine's lock while it holds the front's.
+/// With one lock for front and engine, with reads that always take both, or with calls that wait for the engine's lock while they hold the
+/// front's, the handle would wait for the held write, and the gate would give up.
 #[test]
 fn a_handle_writes_while_a_commit_is_held(rt: HostRuntime) -> Result<(), Fail> {
     is_overtaken(&rt, rt.alloc(), Area::Log)?;

@@ -1,5 +1,4 @@
-//! Tests that no row can stand for: of devices over real files, tables and transactions, threads, and the examples. All call public
-//! functions alone, so that no other library is proved a second time for them.
+//! Tests that no row can stand for. They call public functions alone, so that no other library is proved again for them.
 #![tactic(auto)]
 
 #[cfg(test)]

@@ -1,4 +1,4 @@
-//! New logs on devices in memory, in blocks of 1,024 bytes, and shared journals on them.
+//! New logs on devices in memory, and shared journals on them.
 use block_device::{Device, MemDevice};
 use journal_model::JournalError;
 use recovery::Opened;
@@ -8,7 +8,7 @@ use std::alloc::Global;
 /// Bytes of a block.
 pub const BLOCK_SIZE: usize = 1024;
 
-/// A device in memory with a new log, of this many log and home blocks.
+/// A device in memory with a new log of this many blocks, and this many home blocks.
 pub fn formatted(alloc: Global, log: u32, home: u64) -> Result<MemDevice, JournalError> {
     let mut device = MemDevice::new(alloc, BLOCK_SIZE, u64::from(log), home);
     recovery::format(&mut device, log, &[7; 16], false)?;

@@ -50,7 +50,6 @@ impl<J: PartsName> Model for Last<J> {
     ghost invariant = { λ c. c.met ≡ c.count };
 }
 
-/// The counter rises, and the other side is not asked.
 fn rise<J: PartsName>(meeting: &Meeting<J, u64, Rises>, counter: &mut Counter<J>) {
     if counter.count < RISES {
         counter.count += 1;
@@ -58,7 +57,7 @@ fn rise<J: PartsName>(meeting: &Meeting<J, u64, Rises>, counter: &mut Counter<J>
     meeting.go_on(&mut counter.now, &counter.count);
 }
 
-/// Both meet. Returns by how much the counter has risen since the last time, which is never negative.
+/// Both meet. Returns by how much the counter has risen since.
 fn meet<J: PartsName>(
     meeting: &Meeting<J, u64, Rises>,
     last: &mut Last<J>,
@@ -72,7 +71,6 @@ fn meet<J: PartsName>(
     risen
 }
 
-/// At each meeting of a counter that rises, the other side finds how much it has risen.
 fn rises_between_meetings<J: PartsName, R: Abort>(rt: &R, unnamed: UnnamedMeeting<u64, Rises>)
     requires { unnamed ≡ J.parts }
 {

@@ -1,4 +1,4 @@
-//! Reads without a handle, over a journal of one thread and a shared one: each sees the block as a handle's read would, and notes nothing.
+//! Reads without a handle, in a journal of one thread and a shared one: they see what a handle's read would, and note nothing.
 ghost use Rattle.std.specs.Prelude.{◌≡◌};
 
 use crate::bytes::expect;
@@ -16,7 +16,7 @@ use std::test::Fail;
 
 type Read = Journal<FailOnce<MemDevice>>;
 
-/// An empty log, opened on a device whose call `fail` fails; 0 is none.
+/// An empty log on a device whose call `fail` fails; 0 is none.
 fn empty(alloc: Global, fail: u64) -> Result<Opened<FailOnce<MemDevice>>, JournalError> {
     opened(alloc, FailOnce::new(formatted(alloc, 33, 64)?, fail))
 }
@@ -32,12 +32,11 @@ pub fn journal_on<D: Device + Drop, K: Record>(
     }
 }
 
-/// A journal on an empty log of a device whose call `fail` fails.
 fn journal(alloc: Global, fail: u64) -> Result<Read, JournalError> {
     journal_on(alloc, empty(alloc, fail)?)
 }
 
-/// The first byte of a block, by a read without a handle.
+/// The first byte of a block.
 fn first(journal: &mut Read, block: u64) -> Result<u8, JournalError> {
     let mut bytes = [0xee; BLOCK_SIZE];
     if journal.block_size() != BLOCK_SIZE {
@@ -47,7 +46,7 @@ fn first(journal: &mut Read, block: u64) -> Result<u8, JournalError> {
     Ok(bytes[0])
 }
 
-/// A handle writes a byte to a block, or revokes it if the byte is 0, and stops. Returns its ticket.
+/// A handle writes this byte to a block, or revokes it if the byte is 0, and stops.
 pub fn change<D: Device, K: Record>(
     journal: &mut Journal<D, K>,
     block: u64,
@@ -73,8 +72,7 @@ fn commit(journal: &mut Read, ticket: Ticket) -> Result<(), JournalError> {
     }
 }
 
-/// Block 9 before a write, after it, during its commit, after another write, and after the first commit; and whether the commit was under
-/// way.
+/// Block 9 before a write, after it, during its commit, after another write, and after the first commit; and whether that was under way.
 fn read_by_turns(journal: &mut Read) -> Result<([u8; 5], bool), JournalError> {
     let empty = first(journal, 9)?;
     let one = change(journal, 9, 0x11)?;
@@ -98,7 +96,7 @@ fn a_read_without_a_handle_sees_the_newest_copy(rt: HostRuntime) -> Result<(), F
     Ok(())
 }
 
-/// Block 9 after its commit and after it is home, and block 10; and whether the journal has as many entries as before.
+/// Block 9 after its commit and when it is home, and block 10; and whether the number of entries is unchanged.
 fn read_committed(journal: &mut Read) -> Result<([u8; 3], bool), JournalError> {
     let one = change(journal, 9, 0x11)?;
     commit(journal, one)?;
@@ -109,7 +107,7 @@ fn read_committed(journal: &mut Read) -> Result<([u8; 3], bool), JournalError> {
     Ok((bytes, journal.entries() == before))
 }
 
-/// How many transactions are committed after a close without open handles.
+/// How many transactions are committed after the close.
 fn closed(journal: Read) -> Option<u64> {
     if journal.has_open_handles() {
         return None;
@@ -134,7 +132,7 @@ fn a_read_without_a_handle_sees_what_is_committed_and_what_is_home(
     Ok(())
 }
 
-/// The results of reads of a block that does not exist, of a revoked one, and of that after the revoke's commit.
+/// Reads of a block that does not exist, of a revoked one, and of that after the commit.
 fn read_refused(journal: &mut Read) -> Result<[Result<u8, JournalError>; 3], JournalError> {
     let beyond = first(journal, 64);
     let one = change(journal, 9, 0)?;
@@ -155,7 +153,7 @@ fn a_read_without_a_handle_is_refused(rt: HostRuntime) -> Result<(), Fail> {
     Ok(())
 }
 
-/// The results of two reads of block 10, and whether the journal is aborted between them.
+/// Two reads of block 10, and whether the journal is aborted between them.
 fn read_twice(journal: &mut Read) -> (Result<u8, JournalError>, bool, Result<u8, JournalError>) {
     let once = first(journal, 10);
     let is_aborted = journal.is_aborted();
@@ -171,7 +169,7 @@ fn a_read_without_a_handle_fails_with_the_device(rt: HostRuntime) -> Result<(), 
     Ok(())
 }
 
-/// The first byte of a block, by a read without a handle in a shared journal.
+/// The first byte of a block, in a shared journal.
 fn first_shared<J: JournalName, R: Wait>(
     rt: &R,
     journal: &Shared<J, FailOnce<MemDevice>>,
@@ -185,7 +183,7 @@ fn first_shared<J: JournalName, R: Wait>(
     Ok(bytes[0])
 }
 
-/// Reads a block of home and one that home lacks. Returns how many transactions are committed at the close.
+/// Reads a home block and one that home lacks. Returns how many transactions are committed at the close.
 fn only_read<J: JournalName, R: Wait + Abort>(rt: &R, laid: LaidJournal<FailOnce<MemDevice>>) -> u64
     requires name { laid.name ≡ J.name }
 {

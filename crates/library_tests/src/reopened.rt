@@ -12,14 +12,13 @@ use std::process::Abort;
 use std::sync::Wait;
 use std::test::Fail;
 
-/// A block that begins with `11`, then zeros.
 fn beginning_with_11() -> [u8; 1024] {
     let mut bytes = [0; 1024];
     bytes[0] = 0x11;
     bytes
 }
 
-/// Writes block 9 through a handle, restarts that, and stops the new one, with one credit each. Returns the transactions of both.
+/// Writes block 9 through a handle, restarts it, and stops the new one. Returns the transactions of both.
 fn write_and_restart<J: JournalName, D: Device, K: Record, R: Wait>(
     rt: &R,
     journal: &Journal<J, D, K>,
@@ -42,7 +41,7 @@ fn write_and_restart<J: JournalName, D: Device, K: Record, R: Wait>(
     }
 }
 
-/// Does so, and closes the journal: one transaction is sealed, and committed.
+/// Does so, and closes the journal: one transaction is sealed and committed.
 fn closed<J: JournalName, R: Wait + Abort>(
     rt: &R,
     laid: LaidJournal<MemDevice, Vec<Sealed>>,
@@ -59,7 +58,7 @@ fn closed<J: JournalName, R: Wait + Abort>(
     parts.device
 }
 
-/// What an opening of the log finds: whether it is clean, the next number, and block 9 of home.
+/// What an opening finds: whether the log is clean, the next number, and block 9.
 fn found(alloc: Global, device: MemDevice) -> Result<(bool, Tid, [u8; 1024]), JournalError> {
     let opened = opened(alloc, device)?;
     let (clean, next) = (opened.report().clean, opened.next());

@@ -1,4 +1,4 @@
-//! Clients in threads of their own, over a device in memory: undisturbed, held at a gate, short of room, and over a device that fails.
+//! Clients in threads of their own, over a device in memory: undisturbed, held at a gate, short of room, and over a failing device.
 ghost use Rattle.std.specs.Prelude.{◌≡◌};
 
 mod gates;
@@ -28,7 +28,6 @@ const LOG_BLOCKS: u32 = 33;
 /// How often two clients run.
 const RUNS: u32 = 1000;
 
-/// A write of a block that is full of one byte.
 fn write(alloc: Global, block: u64, byte: u8) -> Result<Touch, AllocError> {
     Ok(Touch::Write(
         BlockNo(block),
@@ -63,7 +62,7 @@ fn two_clients(alloc: Global) -> Result<Vec<Vec<HandlePlan>>, AllocError> {
     Ok(plans)
 }
 
-/// Clients with this many handles each. A handle writes two blocks of its client's, and every other one is waited for.
+/// A handle writes two blocks of its client's; every other handle is waited for.
 fn many_clients(
     alloc: Global,
     clients: u64,
@@ -89,8 +88,8 @@ fn many_handles(alloc: Global, client: u64, handles: u8) -> Result<Vec<HandlePla
     Ok(plan)
 }
 
-/// What clients did: how many were refused something, and the last cause; how many handles were stopped and how many have receipts, and the
-/// greatest transaction of these; the tally; and how many transactions were committed.
+/// How many clients were refused something, and the last cause; how many handles were stopped and how many have receipts, and the greatest
+/// transaction of these; the tally; and how many transactions were committed.
 #[derive(Clone, Copy, Debug, PartialEq, Eq)]
 struct Summary {
     refused: usize,
@@ -102,7 +101,6 @@ struct Summary {
     committed: u64,
 }
 
-/// Counts a client.
 fn count<J: JournalName>(summary: Summary, client: &ClientOutcome<J, Vec<Sealed>>) -> Summary {
     let mut summary = summary;
     if client.refusal.is_some() {
@@ -119,7 +117,7 @@ fn count<J: JournalName>(summary: Summary, client: &ClientOutcome<J, Vec<Sealed>
     summary
 }
 
-/// Runs clients over an unnamed journal. Returns what they did, and the device, or why they were not run.
+/// Runs clients over an unnamed journal.
 fn try_run<
     J: JournalName + Send + Sync,
     D: Device + Send + Drop,
@@ -164,7 +162,7 @@ fn summary_of<J: JournalName, D: Device + Drop>(
     (summary, parts.device)
 }
 
-/// Runs clients over a journal on the log of a device. Returns what they did, and the device.
+/// Runs clients over the log of a device.
 fn run_on<D: Device + Send + Drop, G: Gate + Sync, R: Threads + Wait + Sync>(
     rt: &R,
     alloc: Global,
@@ -176,7 +174,7 @@ fn run_on<D: Device + Send + Drop, G: Gate + Sync, R: Threads + Wait + Sync>(
     try_run::<Brand, _, _, _>(rt, alloc, laid, plans, gate)
 }
 
-/// Runs clients over a new log in memory. Returns what they did.
+/// Runs clients over a new log in memory.
 fn run<G: Gate + Sync, R: Threads + Wait + Sync>(
     rt: &R,
     alloc: Global,
@@ -187,12 +185,12 @@ fn run<G: Gate + Sync, R: Threads + Wait + Sync>(
     Ok(summary)
 }
 
-/// How many clients were refused something, how many handles were stopped, and how many have receipts.
+/// Refused clients, stopped handles and receipts.
 fn counts(summary: &Summary) -> (usize, usize, usize) {
     (summary.refused, summary.handles, summary.receipts)
 }
 
-/// The first run of two clients that does not make two to four transactions and four receipts, or leaves a credit taken.
+/// The first run without two to four transactions and four receipts, or with a credit taken.
 fn first_wrong_run<R: Threads + Wait + Sync>(
     rt: &R,
     alloc: Global,
@@ -219,7 +217,7 @@ fn two_clients_run(rt: HostRuntime) -> Result<(), Fail> {
     Ok(())
 }
 
-/// The counts of many clients, and whether the credits taken are those of entries.
+/// The counts, and whether the credits taken are those of entries.
 fn run_many<R: Threads + Wait + Sync>(
     rt: &R,
     alloc: Global,
@@ -240,7 +238,7 @@ fn many_clients_share_a_short_ring(rt: HostRuntime) -> Result<(), Fail> {
     Ok(())
 }
 
-/// How many receipts clients have, and whether the gate gave up.
+/// How many receipts there are, and whether the gate gave up.
 fn run_at_once<R: Threads + Wait + Sync>(
     rt: &R,
     alloc: Global,
@@ -258,7 +256,7 @@ fn two_handles_are_open_at_once(rt: HostRuntime) -> Result<(), Fail> {
     Ok(())
 }
 
-/// A handle that takes all six credits of the log and writes six blocks, so that no other starts until its transaction is sealed.
+/// A handle with all six credits of the log and six writes: no other starts until its transaction is sealed.
 fn greedy(alloc: Global, byte: u8, waits: bool) -> Result<HandlePlan, AllocError> {
     let mut touches = Vec::new(alloc);
     for block in 0..6 {
@@ -271,7 +269,7 @@ fn greedy(alloc: Global, byte: u8, waits: bool) -> Result<HandlePlan, AllocError
     })
 }
 
-/// One client with two handles that each take all credits.
+/// One client with two such handles.
 fn greedy_plans(alloc: Global) -> Result<Vec<Vec<HandlePlan>>, AllocError> {
     let mut handles = Vec::new(alloc);
     handles.push(greedy(alloc, 1, false)?)?;
@@ -281,7 +279,7 @@ fn greedy_plans(alloc: Global) -> Result<Vec<Vec<HandlePlan>>, AllocError> {
     Ok(plans)
 }
 
-/// How many handles were stopped and how many have receipts; and whether the gate held a write, and gave up.
+/// Stopped handles and receipts; and whether the gate held a write, and gave up.
 fn run_held<R: Threads + Wait + Sync>(
     rt: &R,
     alloc: Global,
@@ -296,8 +294,8 @@ fn run_held<R: Threads + Wait + Sync>(
     ))
 }
 
-/// The second handle can't start before the first one's transaction is sealed. The first write of the log is held until it has written:
-/// work on the front does not wait for the device.
+/// The second handle can't start before the first one's seal. The first write of the log is held until the second one has written: work on
+/// the front does not wait for the device.
 #[test]
 fn a_client_writes_while_a_commit_is_held(rt: HostRuntime) -> Result<(), Fail> {
     let plans = greedy_plans(rt.alloc())?;
@@ -306,11 +304,10 @@ fn a_client_writes_while_a_commit_is_held(rt: HostRuntime) -> Result<(), Fail> {
     Ok(())
 }
 
-/// The device makes at least this many calls: those of the opening, and of 16 commits of six copies each.
+/// The device makes at least this many calls, in the opening and in 16 commits of six copies.
 const FAILING_CALLS: u64 = 100;
 
-/// Whether clients over a device that fails are refused with Aborted, and the crash image opens to every transaction of which a client has
-/// a receipt.
+/// Whether clients over a failing device are refused with Aborted, and the crash image opens to every transaction with a receipt.
 fn fails_well<R: Threads + Wait + Sync>(
     rt: &R,
     alloc: Global,
@@ -325,12 +322,11 @@ fn fails_well<R: Threads + Wait + Sync>(
     Ok(is_told && left > u64::from(acknowledged.0))
 }
 
-/// The number after the last transaction that an opening of a device finds.
 fn opened_left(alloc: Global, device: MemDevice) -> Result<u64, JournalError> {
     Ok(u64::from(opened(alloc, device)?.report().ends_at))
 }
 
-/// The first failing call for which that is not so, among those at which the opening does not fail.
+/// The first failing call for which that is not so, if the opening does not fail.
 fn first_bad<R: Threads + Wait + Sync>(
     rt: &R,
     alloc: Global,
@@ -347,8 +343,8 @@ fn first_bad<R: Threads + Wait + Sync>(
     Ok(None)
 }
 
-/// Each device call fails in turn, under eight clients. Each client ends with its receipts or with Aborted, and the crash image opens to
-/// every transaction of which a client has a receipt.
+/// Each device call fails in turn. Each client ends with its receipts or with Aborted, and the crash image opens to every transaction with
+/// a receipt.
 #[test]
 fn a_device_fails_once_under_eight_clients(rt: HostRuntime) -> Result<(), Fail> {
     let plans = many_clients(rt.alloc(), 8, 6)?;

@@ -61,7 +61,6 @@ fn none<J: PartsName>(parts: &Parts<J, u64, u64, Within>, total: &mut Total<J>) 
     Share { share: 0, part }
 }
 
-/// The number rises, and no share is asked.
 fn rise<J: PartsName>(parts: &Parts<J, u64, u64, Within>, total: &mut Total<J>) {
     if total.total < MOST {
         total.total += 1;
@@ -69,7 +68,7 @@ fn rise<J: PartsName>(parts: &Parts<J, u64, u64, Within>, total: &mut Total<J>) 
     parts.go_on(&mut total.whole, &total.total);
 }
 
-/// A share takes all of the number. Returns by how much the number has risen since the share last did, which is never negative.
+/// A share takes all of the number. Returns by how much it has risen since the last time.
 fn take<J: PartsName>(
     parts: &Parts<J, u64, u64, Within>,
     total: &mut Total<J>,
@@ -95,7 +94,6 @@ fn lacking<J: PartsName>(
     total.total - share.share
 }
 
-/// A number that rises between what two shares take of it.
 fn rises_between<J: PartsName, R: Abort>(rt: &R, unnamed: UnnamedParts<u64, u64, Within>)
     requires { unnamed ≡ J.parts }
 {

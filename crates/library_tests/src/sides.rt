@@ -13,7 +13,7 @@ use std::marker::Brand;
 use std::process::Abort;
 use std::test::Fail;
 
-/// A handle revokes one block, and stops. Returns whether it could.
+/// A handle revokes one block, and stops.
 fn revoke_one<J: PartsName>(front: &mut FrontSide<J, MemDevice>, block: u64) -> bool {
     let Ok(mut handle) = front.try_start(1) else {
         return false;
@@ -23,7 +23,7 @@ fn revoke_one<J: PartsName>(front: &mut FrontSide<J, MemDevice>, block: u64) -> 
     revoked
 }
 
-/// A handle revokes one block, and its transaction's commit is requested. Returns whether both could be done.
+/// The same, and requests its transaction's commit.
 fn revoke_and_request<J: PartsName>(
     front: &mut FrontSide<J, MemDevice>,
     block: u64,
@@ -32,7 +32,7 @@ fn revoke_and_request<J: PartsName>(
     revoke_one(front, block) && front.request_commit(Tid(tid)).is_ok()
 }
 
-/// The refusal of one more handle, if it is refused.
+/// The refusal of one more handle.
 fn refusal<J: PartsName>(front: &mut FrontSide<J, MemDevice>) -> Option<JournalError> {
     match front.try_start(1) {
         Ok(handle) => {
@@ -43,7 +43,7 @@ fn refusal<J: PartsName>(front: &mut FrontSide<J, MemDevice>) -> Option<JournalE
     }
 }
 
-/// Whether a call of the engine is a step of a commit, and not its last.
+/// Whether the engine takes a step of a commit that is not its last.
 fn is_step<J: PartsName>(
     meeting: &SidesMeeting<J, MemDevice>,
     engine: &mut EngineSide<J, MemDevice>,
@@ -51,7 +51,7 @@ fn is_step<J: PartsName>(
     matches!(engine.commit_step(meeting), Ok(Progress::Step))
 }
 
-/// While the engine alone commits one transaction, handles of the next one work. The front knows of the commit after both have met.
+/// While the engine alone commits a transaction, handles of the next one work. The front learns of the commit when both meet.
 fn goes_on<J: PartsName, R: Abort>(rt: &R, unnamed: UnnamedSides<MemDevice>)
     requires { unnamed.meeting ≡ J.parts }
 {

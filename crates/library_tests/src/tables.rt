@@ -9,7 +9,7 @@ use std::test::Fail;
 /// Revokes by block and transaction.
 const REVOKES: [(u64, u32); 4] = [(7, 3), (7, 5), (7, 4), (8, 9)];
 
-/// Whether these copies are covered: of block 7 in transactions 5 and 6, of block 8 in 9, and of block 9 in 1.
+/// Copies of block 7 in transactions 5 and 6, of block 8 in 9, and of block 9 in 1.
 fn covered(table: &RevokeTable) -> [bool; 4] {
     [
         table.covers(BlockNo(7), Tid(5)),
@@ -59,7 +59,6 @@ fn the_last_copy_is_the_newest(rt: HostRuntime) -> Result<(), Fail> {
     Ok(())
 }
 
-/// A transaction that copies one block and revokes another.
 fn batch(alloc: Global, tid: u32, copied: u64, revoked: u64) -> Result<Batch, AllocError> {
     let mut entries = Items::new(alloc);
     entries.push((BlockNo(copied), Entry::Copy(Block::copy_of(alloc, &[7])?)))?;
@@ -70,14 +69,13 @@ fn batch(alloc: Global, tid: u32, copied: u64, revoked: u64) -> Result<Batch, Al
     })
 }
 
-/// Makes room for a transaction's entries, and notes them.
 fn hand_over(table: &mut LastEffects, batch: &Batch) -> Result<(), JournalError> {
     table.reserve(batch.entries.len())?;
     table.note(batch);
     Ok(())
 }
 
-/// Whether blocks are left to home: block 7 by what is committed below transaction 2, block 8 below 3 and 4, and block 9 below 2, 3 and 4.
+/// Block 7 by what is committed below transaction 2, block 8 below 3 and 4, and block 9 below 2, 3 and 4.
 fn left_to_home(table: &LastEffects) -> [bool; 6] {
     [
         table.is_left_to_home(BlockNo(7), Tid(2)),
@@ -89,7 +87,7 @@ fn left_to_home(table: &LastEffects) -> [bool; 6] {
     ]
 }
 
-/// Which blocks are left to home after transaction 2 copies block 8 and revokes block 9, and after transaction 3 does the opposite.
+/// After transaction 2 copies block 8 and revokes block 9, and after transaction 3 does the opposite.
 fn noted_by_turns(alloc: Global, table: &mut LastEffects) -> Result<[[bool; 6]; 2], JournalError> {
     hand_over(table, &batch(alloc, 2, 8, 9)?)?;
     let once = left_to_home(table);

@@ -19,10 +19,10 @@ use std::{fs, io};
 /// How often each thread reserves.
 const ROUNDS: u64 = 1_000_000;
 
-/// How many handles each thread has, one after another.
+/// Handles of each thread.
 const HANDLES: u64 = 20;
 
-/// Reserves all credits but one over and over, and counts the granted ones in `held`. Returns whether two never had them at once.
+/// Reserves all credits but one over and over. Returns whether two threads never had them at once.
 fn hammer<J: JournalName, D: Device>(
     journal: &Journal<J, D>,
     mut seat: Seat<J>,
@@ -40,7 +40,6 @@ fn hammer<J: JournalName, D: Device>(
     within
 }
 
-/// Two threads reserve and give back at once. Returns whether they never held more than the capacity.
 fn hammer_at_once<J: JournalName + Send + Sync, D: Device + Send, R: Threads + Wait + Sync>(
     rt: &R,
     journal: &Journal<J, D>,
@@ -56,7 +55,7 @@ fn hammer_at_once<J: JournalName + Send + Sync, D: Device + Send, R: Threads + W
     first && second
 }
 
-/// Writes blocks from `first` on, each through a handle of its own. Returns the last handle's ticket.
+/// Writes blocks from `first` on, each through its own handle. Returns the last ticket.
 fn write_all<J: JournalName, D: Device, R: Wait>(
     rt: &R,
     journal: &Journal<J, D>,
@@ -85,7 +84,7 @@ fn write_all<J: JournalName, D: Device, R: Wait>(
     last
 }
 
-/// Takes commit turns until the ticket's transaction is committed. Returns whether it is.
+/// Takes turns until the ticket's transaction is committed.
 fn commit<J: JournalName, D: Device, R: Wait>(
     rt: &R,
     journal: &Journal<J, D>,
@@ -104,7 +103,6 @@ fn commit<J: JournalName, D: Device, R: Wait>(
     false
 }
 
-/// Two threads write at once. Returns the last ticket of each.
 fn write_at_once<J: JournalName + Send + Sync, D: Device + Send, R: Threads + Wait + Sync>(
     rt: &R,
     journal: &Journal<J, D>,
@@ -122,7 +120,7 @@ fn write_at_once<J: JournalName + Send + Sync, D: Device + Send, R: Threads + Wa
     }
 }
 
-/// Whether both tickets' transactions are committed, and are one; the journal's record confirms both receipts.
+/// Whether both tickets' transactions are committed, and are one; the record confirms both receipts.
 fn both_stand<J: JournalName, D: Device, R: Wait>(
     rt: &R,
     journal: &Journal<J, D>,
@@ -140,7 +138,7 @@ fn both_stand<J: JournalName, D: Device, R: Wait>(
     }
 }
 
-/// Whether a seat can get this many credits.
+/// Whether this many credits can be had.
 fn all_are_left<J: JournalName>(
     journal: &Journal<J, MemDevice>,
     seat: &mut Seat<J>,
@@ -155,14 +153,13 @@ fn all_are_left<J: JournalName>(
     }
 }
 
-/// All credits of the journal: a quarter of its ring of 1,023 blocks holds this many copies, three descriptors and a commit block.
+/// A quarter of the ring's 1,023 blocks holds this many copies, three descriptors and a commit block.
 const ALL: u64 = 251;
 
 /// The credits that the entries of both threads hold.
 const HELD: u64 = 2 * HANDLES;
 
-/// What is seen while entries hold credits: a ticket's status, the tally, and whether one credit too many, and exactly the others, can be
-/// had.
+/// A ticket's status, the tally, and whether one credit too many, and exactly the free ones, can be had.
 fn told_before<J: JournalName, R: Wait>(
     rt: &R,
     journal: &Journal<J, MemDevice>,
@@ -179,8 +176,8 @@ fn told_before<J: JournalName, R: Wait>(
     )
 }
 
-/// Commits the first ticket's transaction, which is also the second one's. Returns whether that was done, whether all credits are free, the
-/// second ticket's status, and whether both stand.
+/// Commits the transaction of both tickets. Returns whether that was done, whether all credits are free, the second ticket's status, and
+/// whether both stand.
 fn told_behind<J: JournalName, R: Wait>(
     rt: &R,
     journal: &Journal<J, MemDevice>,
@@ -199,7 +196,7 @@ fn told_behind<J: JournalName, R: Wait>(
     )
 }
 
-/// Two threads reserve and give back at once, then write at once. All is committed in one transaction, and the credits are back.
+/// Two threads reserve at once, then write at once. All is committed in one transaction, and the credits are back.
 fn shared<J: JournalName + Send + Sync, R: Threads + Wait + Abort + Sync>(
     rt: &R,
     laid: LaidJournal<MemDevice>,
@@ -248,7 +245,6 @@ const FOLDER: &str = "two_threads_test";
 /// Blocks of the home file.
 const HOME_BLOCKS: usize = 128;
 
-/// A device over a log and a home file of zeros, in blocks of 1024 bytes.
 fn two_files(rt: &HostRuntime) -> io::Result<FileDevice<UnknownContents>> {
     let log = vec![in rt.alloc(); 0; 1024 * 256]?;
     let home = vec![in rt.alloc(); 0; 1024 * HOME_BLOCKS]?;
@@ -280,7 +276,6 @@ fn written<J: JournalName + Send + Sync, D: Device + Drop + Send, R: Threads + W
     parts.device
 }
 
-/// What the home file should hold: the blocks that the threads wrote.
 fn expected_home(rt: &HostRuntime) -> io::Result<Vec<u8>> {
     let mut home = vec![in rt.alloc(); 0; 1024 * HOME_BLOCKS]?;
     home[..1024 * 20].fill(7);
@@ -288,7 +283,7 @@ fn expected_home(rt: &HostRuntime) -> io::Result<Vec<u8>> {
     Ok(home)
 }
 
-/// Whether it does. Removes the folder.
+/// Whether the home file has what the threads wrote. Removes the folder.
 fn is_home(rt: &HostRuntime) -> io::Result<bool> {
     let is_home = holds(rt, FOLDER, "home", &expected_home(rt)?)?;
     fs::remove_dir_all(rt, FOLDER)?;

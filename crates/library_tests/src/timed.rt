@@ -1,4 +1,4 @@
-//! The command `bench` with clients in threads of their own, over a device in memory, also over one that fails.
+//! The command `bench` with clients in threads, over a device in memory, also a failing one.
 use crate::bytes::expect;
 use crate::logs::{formatted, opened};
 use block_device::{Device, FailOnce, MemDevice};
@@ -17,12 +17,12 @@ use std::time::Clock;
 /// How many of the device's calls fail in turn.
 const FAILING_CALLS: u64 = 150;
 
-/// An empty log of 33 blocks: so few that there is a checkpoint round every few commits.
+/// So few blocks that there is a checkpoint round every few commits.
 fn few_blocks(alloc: Global) -> Result<MemDevice, JournalError> {
     formatted(alloc, 33, 64)
 }
 
-/// What `bench` prints of four clients on this device; the device comes back if all was done.
+/// What `bench` prints of four clients; the device comes back if all was done.
 fn said<R: Threads + Wait + Sync, C: Clock + Sync, D: Device + Send + Drop>(
     rt: &R,
     clock: &C,
@@ -54,7 +54,7 @@ fn is_clean(alloc: Global, device: MemDevice) -> bool {
     }
 }
 
-/// Whether clients of a new log printed the time of all their transactions, printed the commits, and left a clean log.
+/// Whether `bench` printed the time of all transactions, and the commits, and left a clean log.
 fn is_durable<R: Threads + Wait + Sync, C: Clock + Sync>(
     rt: &R,
     clock: &C,
@@ -74,7 +74,6 @@ fn is_durable<R: Threads + Wait + Sync, C: Clock + Sync>(
     ])
 }
 
-/// All transactions and their commits are reported, and the log is clean.
 #[test]
 fn clients_commit_at_once(rt: HostRuntime) -> Result<(), Fail> {
     let (mut out, mut err) = (Vec::new(rt.alloc()), Vec::new(rt.alloc()));
@@ -83,7 +82,7 @@ fn clients_commit_at_once(rt: HostRuntime) -> Result<(), Fail> {
     Ok(())
 }
 
-/// Whether clients end after this device call fails, and the message names that failure and not the abort after it.
+/// Whether clients end after a failure of this device call, and the message names that and not the abort after it.
 fn is_told<R: Threads + Wait + Sync, C: Clock + Sync>(
     rt: &R,
     clock: &C,
@@ -97,7 +96,6 @@ fn is_told<R: Threads + Wait + Sync, C: Clock + Sync>(
     Ok(has_failed && told.starts_with("jbench: refusal 2 Device\n"))
 }
 
-/// The first device call for which that is not so.
 fn first_untold<R: Threads + Wait + Sync, C: Clock + Sync>(
     rt: &R,
     clock: &C,

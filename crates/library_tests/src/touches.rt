@@ -8,8 +8,7 @@ use journal_model::{BlockNo, Entry, HandleNo, JournalError, Op, Sealed, Step, Ti
 use std::alloc::Global;
 use std::test::Fail;
 
-/// Touches of blocks by handles: the handle, the block, the byte that it writes or 0 for a revoke, and whether it is the block's first
-/// touch.
+/// The handle, the block, the byte that it writes or 0 for a revoke, and whether it is the block's first touch.
 const TOUCHES: [(u64, u64, u8, bool); 6] = [
     (1, 9, 0x11, true),
     (1, 5, 0x22, true),
@@ -19,7 +18,7 @@ const TOUCHES: [(u64, u64, u8, bool); 6] = [
     (2, 5, 0, false),
 ];
 
-/// Makes the touches, by handles with one credit left each time. Returns whether exactly the expected ones are first.
+/// Makes the touches by handles with one credit left. Returns whether exactly the expected ones are first.
 fn touch_all(transaction: &mut Transaction<Vec<Sealed>>) -> Result<bool, JournalError>
     requires { transaction.old.locked ≡ false }
 {
@@ -37,13 +36,11 @@ fn touch_all(transaction: &mut Transaction<Vec<Sealed>>) -> Result<bool, Journal
     Ok(as_told)
 }
 
-/// The nth entry: its block, and what it shows.
 fn nth(entries: &[(BlockNo, Entry)], n: usize) -> Option<(u64, Option<u8>)> {
     let (block, entry) = entries.get(n)?;
     Some((block.0, shown(Some(entry))))
 }
 
-/// The first three entries that a transaction hands over.
 fn handed_over(
     transaction: &Transaction<Vec<Sealed>>,
 ) -> Result<[Option<(u64, Option<u8>)>; 3], JournalError> {
@@ -52,7 +49,6 @@ fn handed_over(
     Ok([nth(entries, 0), nth(entries, 1), nth(entries, 2)])
 }
 
-/// Locks and seals transaction 2. Returns its record.
 fn sealed<R: Record>(alloc: Global, transaction: &mut Transaction<R>) -> Result<R, JournalError> {
     let mut record = R::new(alloc);
     record.make_room()?;
@@ -65,13 +61,12 @@ fn sealed<R: Record>(alloc: Global, transaction: &mut Transaction<R>) -> Result<
     Ok(record)
 }
 
-/// The number of the last sealed transaction, and how many handles and steps it has.
+/// The last sealed transaction's number, handles and steps.
 fn counts(record: &[Sealed]) -> Option<(u32, usize, usize)> {
     let sealed = record.last()?;
     Some((sealed.tid.0, sealed.handles.len(), sealed.steps.len()))
 }
 
-/// Seals a transaction. Returns the counts of the record.
 fn sealed_counts(
     alloc: Global,
     transaction: &mut Transaction<Vec<Sealed>>,
@@ -103,7 +98,7 @@ fn the_place_stays_and_the_last_operation_decides(rt: HostRuntime) -> Result<(),
     Ok(())
 }
 
-/// How many hold the bytes of a block's copy; `None` without a copy.
+/// How many hold the bytes of a block's copy.
 fn holders(entry: Option<&Entry>) -> Option<usize> {
     match entry? {
         Entry::Copy(copy) => Some(copy.holders()),
@@ -111,8 +106,8 @@ fn holders(entry: Option<&Entry>) -> Option<usize> {
     }
 }
 
-/// Writes block 7 once. Returns how many hold its bytes after the write, after the entries are handed over, after the seal, after those
-/// entries are dropped, and after the record is; and the counts of the record.
+/// How many hold block 7's bytes after a write, after the entries are handed over, after the seal, after those entries are dropped, and
+/// after the record is; and the counts of the record.
 fn held_by_turns(
     alloc: Global,
     transaction: &mut Transaction<Vec<Sealed>>,
@@ -143,12 +138,10 @@ fn a_write_copies_its_bytes_once(rt: HostRuntime) -> Result<(), Fail> {
     Ok(())
 }
 
-/// The byte of the nth write.
 fn byte_of(n: usize) -> u8 {
     (n % 251) as u8
 }
 
-/// One handle writes block 7 a thousand times, and no other block.
 fn write_often<R: Record>(transaction: &mut Transaction<R>) -> Result<(), JournalError>
     requires { transaction.old.locked ≡ false }
 {
@@ -159,7 +152,7 @@ fn write_often<R: Record>(transaction: &mut Transaction<R>) -> Result<(), Journa
     Ok(())
 }
 
-/// How many entries a transaction has, what it shows of block 7, and how many hold those bytes.
+/// The number of entries, what block 7 shows, and how many hold those bytes.
 type Left = (usize, Option<u8>, Option<usize>);
 
 fn left<R: Record>(transaction: &Transaction<R>) -> Left {
@@ -167,7 +160,7 @@ fn left<R: Record>(transaction: &Transaction<R>) -> Left {
     (transaction.len(), shown(entry), holders(entry))
 }
 
-/// Writes block 7 often, and seals. Returns what is left of the block before the seal, and the record.
+/// Writes block 7 often, and seals. Returns what is left of it before the seal, and the record.
 fn written_often<R: Record>(
     alloc: Global,
     transaction: &mut Transaction<R>,
@@ -190,7 +183,6 @@ fn is_write(step: &Step, n: usize) -> bool {
     }
 }
 
-/// Whether the steps are the writes, in order.
 fn are_writes(steps: &[Step]) -> bool {
     let mut are_writes = true;
     for (n, step) in steps.iter().enumerate() {
@@ -199,7 +191,6 @@ fn are_writes(steps: &[Step]) -> bool {
     are_writes
 }
 
-/// The counts of a record, and whether it has each write.
 fn recorded(record: &[Sealed]) -> (Option<(u32, usize, usize)>, bool) {
     let are_writes = match record.last() {
         Some(sealed) => are_writes(sealed.steps.as_slice()),
@@ -208,7 +199,7 @@ fn recorded(record: &[Sealed]) -> (Option<(u32, usize, usize)>, bool) {
     (counts(record), are_writes)
 }
 
-/// What is left of block 7 before and after the seal of many writes, and what the record has.
+/// What is left before and after the seal of many writes, and what the record has.
 fn recorded_often(
     alloc: Global,
     transaction: &mut Transaction<Vec<Sealed>>,

@@ -79,8 +79,7 @@ fn prepare<J: JournalName, D: Device, R: Wait>(
     }
 }
 
-/// Writes a block through a handle with one credit, restarts it with all credits, stops that, and waits for its receipt. Returns both
-/// transactions.
+/// Writes a block with one credit, restarts with all credits, stops, and waits for the receipt. Returns both transactions.
 fn go_through<J: JournalName, D: Device, R: Wait>(
     rt: &R,
     journal: &Journal<J, D>,
@@ -105,7 +104,7 @@ fn go_through<J: JournalName, D: Device, R: Wait>(
     }
 }
 
-/// Takes commit turns until the word is not 0. Returns whether it came to that.
+/// Takes commit turns until the word is not 0; whether it came to that.
 fn take_turns<J: JournalName, D: Device, R: Wait>(
     rt: &R,
     journal: &Journal<J, D>,
@@ -134,7 +133,6 @@ fn go_through_and_tell<J: JournalName, D: Device, R: Wait>(
     gone
 }
 
-/// One thread goes through while another takes turns.
 fn go_through_beside_turns<
     J: JournalName + Send + Sync,
     D: Device + Send,
@@ -153,8 +151,8 @@ fn go_through_beside_turns<
     }
 }
 
-/// Brings a new journal to this state, in which a start without a wait is refused. One thread goes through while another takes turns.
-/// Returns the result of that, and how many transactions are committed after the close.
+/// Prepares a journal so that a start without a wait is refused, and has one thread go through while another takes turns. Returns the
+/// result, and how many transactions are committed after the close.
 fn waited<J: JournalName + Send + Sync, D: Device + Drop + Send, R: Threads + Wait + Abort + Sync>(
     rt: &R,
     laid: LaidJournal<D>,
@@ -181,7 +179,6 @@ fn waited<J: JournalName + Send + Sync, D: Device + Drop + Send, R: Threads + Wa
     }
 }
 
-/// The result over a device.
 fn waited_over<D: Device + Drop + Send, R: Threads + Wait + Abort + Sync>(
     rt: &R,
     alloc: Global,
@@ -192,7 +189,7 @@ fn waited_over<D: Device + Drop + Send, R: Threads + Wait + Abort + Sync>(
     Ok(waited::<Brand, _, _>(rt, laid, before))
 }
 
-/// The same over a device in memory with an empty log of 33 blocks; a transaction then has at most six credits.
+/// Over an empty log of 33 blocks in memory; a transaction then has at most six credits.
 fn waited_in_memory<R: Threads + Wait + Abort + Sync>(
     rt: &R,
     alloc: Global,
@@ -217,7 +214,7 @@ fn a_start_waits_for_a_seal(rt: HostRuntime) -> Result<(), Fail> {
     Ok(())
 }
 
-/// The credits that a start waits for never come back, since the previous commit fails; the start is then refused.
+/// The credits that a start waits for never come back, since the previous commit fails; the start is refused.
 #[test]
 fn a_start_ends_with_the_device(rt: HostRuntime) -> Result<(), Fail> {
     let device = StopAt::new(formatted(rt.alloc(), 33, 64)?, 1);

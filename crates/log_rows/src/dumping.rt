@@ -13,7 +13,6 @@ use std::alloc::Global;
 use std::fmt::Write;
 use std::str::from_utf8;
 
-/// Adds why there is no dump.
 fn add_fault(told: &mut String, fault: &Fault) -> Result<(), RowError> {
     match fault {
         Fault::Refused(e) => write!(told, "refusal {} {fault}\n", e.number())?,
@@ -22,7 +21,7 @@ fn add_fault(told: &mut String, fault: &Fault) -> Result<(), RowError> {
     Ok(())
 }
 
-/// What a dump wrote, and behind it why it went no further, where it did not.
+/// The dump's text, followed by why it ended early, if it did.
 fn dump_text(alloc: Global, written: &[u8], answer: Result<(), Fault>) -> Result<String, RowError> {
     let written = from_utf8(written).ok().ok_or(RowError::Unread)?;
     let mut told = text(alloc, written)?;
@@ -32,22 +31,20 @@ fn dump_text(alloc: Global, written: &[u8], answer: Result<(), Fault>) -> Result
     Ok(told)
 }
 
-/// What a dump of a device tells.
 fn dumped<D: Device>(alloc: Global, device: &mut D) -> Result<String, RowError> {
     let mut out = Vec::new(alloc);
     let answer = dump(alloc, device, &mut out);
     dump_text(alloc, &out, answer)
 }
 
-/// Dumps. Given: a log. Found: what its dump writes, and behind that the refusal, if it is refused.
+/// Dumps. Given: a log. Found: what its dump writes, followed by the refusal, if it is refused.
 pub fn dumps(alloc: Global, given: &str) -> Result<String, RowError> {
     let log = log_of(alloc, given)?;
     let told = dumped(alloc, &mut device_of(alloc, &log)?)?;
     text(alloc, told.as_str().trim_end())
 }
 
-/// Dumps into little room. Given: a line `room=N`, and a log. Found: what its dump writes where the output takes only N bytes, and
-/// behind that why it goes no further.
+/// Dumps into little room. Given: a line `room=N`, and a log. Found: why its dump ends early, if the output takes only N bytes.
 pub fn short_dumps(alloc: Global, given: &str) -> Result<String, RowError> {
     let (room, log) = cut(given, "\n")?;
     let [room] = values::<1>(room, "room")?;
@@ -62,8 +59,7 @@ pub fn short_dumps(alloc: Global, given: &str) -> Result<String, RowError> {
     text(alloc, told.as_str().trim_end())
 }
 
-/// A device that counts how often each of the first 40 blocks of its log is read, and from read `fails_at` on fails. With 0 it
-/// never does.
+/// A device that counts the reads of its log's first 40 blocks, and fails from read `fails_at` on; with 0 it never fails.
 #[derive(Drop)]
 struct CountedReads<D> {
     device: D,
@@ -74,7 +70,6 @@ struct CountedReads<D> {
 }
 
 impl<D: Device> CountedReads<D> {
-    /// Counts a call, and fails where its time has come.
     fn running(&mut self) -> Result<(), DeviceFault>
         ensures ok { OnOk result ((self.new.device ≡ self.old.device) × (self.new.faults ≡ self.old.faults)) }
         ensures err { OnErr result ((self.new.device ≡ self.old.device) × (self.new.faults ≡ one_more_fault self.old.faults)) }
@@ -122,7 +117,6 @@ impl<D: Device> Device for CountedReads<D> {
     }
 }
 
-/// Adds how often each block was read that was read at all.
 fn add_counts(told: &mut String, counts: &[u8; 40]) -> Result<(), RowError> {
     told.push_str("reads")?;
     for (block, count) in counts.iter().enumerate() {
@@ -133,8 +127,8 @@ fn add_counts(told: &mut String, counts: &[u8; 40]) -> Result<(), RowError> {
     Ok(())
 }
 
-/// Dumps whose reads are counted, and fail. Given: a line `fails=N`, and a log. Found: as of `dumps`, where read N of the dump and
-/// each behind it fails, or none for 0; and a line with how often each block of the log was read.
+/// Dumps whose reads are counted, and fail. Given: a line `fails=N`, and a log. Found: as for `dumps`, where read N and each later one
+/// fails, or none for 0; and a line with how often each block of the log was read.
 pub fn counted_dumps(alloc: Global, given: &str) -> Result<String, RowError> {
     let (fails, log) = cut(given, "\n")?;
     let [fails_at] = values::<1>(fails, "fails")?;

@@ -6,8 +6,8 @@ ghost use Rattle.journal_model.specs.Disk.{Image, IsOneOf, Leaves, held};
 use block_device::{Device, DeviceFault};
 use journal_model::Area;
 
-/// Two writes, a flush of the log, and one more write of the same log block: a crash leaves of the log block just one of
-/// its two values, and of the home block just the new value or what might have been left there before.
+/// Two writes, a flush of the log, and another write of the same log block. A crash leaves exactly one of two values of the log block, and
+/// of the home block the new value or what might have been left there before.
 pub fn known_images<D: Device>(
     device: &mut D,
     first: &[u8],

@@ -1,8 +1,5 @@
-//! What is done with rows of logs: texts and transactions of the plain program, dumps, and devices in memory.
-//!
-//! A row gives a text and says what text is wanted. Each kind of rows is a function here, as in `format_rows`: it does what
-//! the row gives over the public functions of the crates below, and answers the text that it found. `logs` says how logs are
-//! spelled in every row.
+//! Rows of logs: texts and transactions of the plain program, dumps, and devices in memory. A row gives a text, and the text that is
+//! wanted; each kind of rows is a function. `logs` says how rows spell logs.
 #![tactic(auto)]
 
 mod dumping;

@@ -8,8 +8,7 @@
 //! BLOCKS = P ":" BLOCK { "|" BLOCK }                        blocks of the log's area, from block P on
 //! ```
 //!
-//! Each part is a line. A block that no line spells is zeros. The module `spelling` of the crate `format_rows` has the
-//! spelling of a block.
+//! Each part is a line. Other blocks are zeros. The module `spelling` of the crate `format_rows` has the spelling of a block.
 use block_device::{Device, MemDevice};
 use format_rows::RowError;
 use format_rows::spelling::{Measures, block_of};
@@ -26,7 +25,7 @@ pub struct Shape {
     pub home_blocks: u64,
 }
 
-/// The measures that need not be said.
+/// The default measures.
 const USUAL: Shape = Shape {
     measures: Measures {
         block_size: 1024,
@@ -36,16 +35,15 @@ const USUAL: Shape = Shape {
     home_blocks: 64,
 };
 
-/// A log that is spelled.
+/// A log that a row spells.
 #[derive(Drop)]
 pub struct Log {
     /// The measures of its device.
     pub shape: Shape,
-    /// Its blocks that are spelled, each behind its place, in the order of their lines.
+    /// The spelled blocks with their places, in the order of their lines.
     pub blocks: Items<(u64, Block)>,
 }
 
-/// The measures that the words behind `device` give.
 fn shape_of(words: &str) -> Result<Shape, RowError> {
     let mut shape = USUAL;
     for word in words.split_whitespace() {
@@ -58,7 +56,6 @@ fn shape_of(words: &str) -> Result<Shape, RowError> {
     Ok(shape)
 }
 
-/// Takes the measure of a word.
 fn set_measure(shape: &mut Shape, word: &str) -> Result<(), RowError> {
     let (name, value) = cut(word, "=")?;
     match name {
@@ -70,7 +67,7 @@ fn set_measure(shape: &mut Shape, word: &str) -> Result<(), RowError> {
     Ok(())
 }
 
-/// The measures of a text, which its first line may give, and the lines behind that.
+/// The measures that the first line may give, and the other lines.
 fn split_shape(given: &str) -> Result<(Shape, &str), RowError> {
     match given.strip_prefix("device ") {
         Some(behind) => {
@@ -81,7 +78,6 @@ fn split_shape(given: &str) -> Result<(Shape, &str), RowError> {
     }
 }
 
-/// Adds the blocks of a line.
 fn push_line(
     alloc: Global,
     blocks: &mut Items<(u64, Block)>,
@@ -108,7 +104,7 @@ pub fn log_of(alloc: Global, given: &str) -> Result<Log, RowError> {
     Ok(Log { shape, blocks })
 }
 
-/// The block that a log has at a place of its area: zeros where no line spells it.
+/// The block at a place of the log's area; zeros if no line spells it.
 pub fn block_at(alloc: Global, log: &Log, place: u64) -> Result<Block, AllocError> {
     for (other, block) in log.blocks.as_slice().iter().rev() {
         if *other == place {
@@ -118,7 +114,6 @@ pub fn block_at(alloc: Global, log: &Log, place: u64) -> Result<Block, AllocErro
     Block::new(vec![in alloc; 0; log.shape.measures.block_size]?)
 }
 
-/// Writes a block of a log.
 fn write_block(device: &mut MemDevice, place: u64, bytes: &[u8]) -> Result<(), RowError> {
     if bytes.len() != device.block_size() || place >= device.blocks(Area::Log) {
         return Err(RowError::Unread);

@@ -1,10 +1,10 @@
 //! Rows of devices in memory that lose power, stop, and fail once.
 //!
-//! The device has 4 blocks of the log and 400 home blocks, of 4 bytes each. Its calls are spelled, with bars between them:
+//! The device has 4 log blocks and 400 home blocks, of 4 bytes each. Its calls are spelled like this, with bars between them:
 //!
 //! ```text
 //! write log 1 0a       fills block 1 of the log with the byte 0a
-//! write home 0..3 0b   fills such home blocks, one after the other
+//! write home 0..3 0b   fills these home blocks, in order
 //! flush home           flushes an area
 //! read log 1           answers the bytes of a block
 //! writes               answers how many writes are counted
@@ -12,11 +12,11 @@
 //! stopped              answers whether it has stopped
 //! fail 3               from here on call 3 of the device fails; none for 0
 //! calls                answers how many calls that device has counted
-//! behind               goes on with the device behind the one that stops, or fails
-//! crash 1 3            the power goes away, and writes 1 and 3 are kept
+//! behind               goes on with the device inside the one that stops or fails
+//! crash 1 3            power is lost, and writes 1 and 3 are kept
 //! ```
 //!
-//! A call that fails answers why. A block is told without the zeros at its end.
+//! A failed call answers why. A block is printed without the zeros at its end.
 use crate::images::known_images;
 use block_device::{Device, DeviceFault, FailOnce, MemDevice, StopAt};
 use format_rows::RowError;
@@ -26,10 +26,9 @@ use journal_model::{Area, Items};
 use std::alloc::Global;
 use std::fmt::Write;
 
-/// Bytes of a block.
 const SIZE: usize = 4;
 
-/// A device in memory, or one over it that stops, or fails once.
+/// A device in memory, or one over it that stops, or that fails once.
 #[derive(Drop)]
 enum Rig {
     Memory(MemDevice),
@@ -37,7 +36,6 @@ enum Rig {
     Failing(FailOnce<MemDevice>),
 }
 
-/// The area of this name.
 fn area_of(name: &str) -> Result<Area, RowError> {
     match name {
         "log" => Ok(Area::Log),
@@ -46,7 +44,6 @@ fn area_of(name: &str) -> Result<Area, RowError> {
     }
 }
 
-/// Adds why a call failed, where it did.
 fn add_answer(told: &mut String, answer: Result<(), DeviceFault>) -> Result<(), RowError> {
     if let Err(fault) = answer {
         write!(told, "{fault} | ")?;
@@ -54,7 +51,6 @@ fn add_answer(told: &mut String, answer: Result<(), DeviceFault>) -> Result<(), 
     Ok(())
 }
 
-/// Fills a block.
 fn fill<D: Device>(
     told: &mut String,
     device: &mut D,
@@ -67,7 +63,6 @@ fn fill<D: Device>(
     add_answer(told, device.write(area, block, &[byte; SIZE]))
 }
 
-/// Fills the blocks that some words say, with the byte that they say.
 fn fill_series<D: Device>(told: &mut String, device: &mut D, words: &str) -> Result<(), RowError> {
     let (area, behind) = cut(words, " ")?;
     let (blocks, byte) = cut(behind, " ")?;
@@ -80,7 +75,6 @@ fn fill_series<D: Device>(told: &mut String, device: &mut D, words: &str) -> Res
     Ok(())
 }
 
-/// Reads the block that some words say.
 fn read<D: Device>(told: &mut String, device: &mut D, words: &str) -> Result<(), RowError> {
     let (area, block) = cut(words, " ")?;
     let area = area_of(area)?;
@@ -96,7 +90,6 @@ fn read<D: Device>(told: &mut String, device: &mut D, words: &str) -> Result<(),
     Ok(told.push_str(" | ")?)
 }
 
-/// Makes a call that any device has.
 fn call<D: Device>(told: &mut String, device: &mut D, spelled: &str) -> Result<(), RowError> {
     let (name, words) = cut(spelled, " ")?;
     match name {
@@ -107,7 +100,6 @@ fn call<D: Device>(told: &mut String, device: &mut D, spelled: &str) -> Result<(
     }
 }
 
-/// The numbers of these words.
 fn numbers_of(alloc: Global, words: &str) -> Result<Items<u64>, RowError> {
     let mut numbers = Items::new(alloc);
     for word in words.split_whitespace() {
@@ -116,7 +108,6 @@ fn numbers_of(alloc: Global, words: &str) -> Result<Items<u64>, RowError> {
     Ok(numbers)
 }
 
-/// Makes a call of a device in memory.
 fn call_memory(
     alloc: Global,
     told: &mut String,
@@ -138,7 +129,6 @@ fn call_memory(
     Ok(Rig::Memory(device))
 }
 
-/// Makes a call of a device that stops.
 fn call_stopping(
     told: &mut String,
     mut device: StopAt<MemDevice>,
@@ -152,7 +142,6 @@ fn call_stopping(
     Ok(Rig::Stopping(device))
 }
 
-/// Makes a call of a device that fails once.
 fn call_failing(
     told: &mut String,
     mut device: FailOnce<MemDevice>,
@@ -166,12 +155,11 @@ fn call_failing(
     Ok(Rig::Failing(device))
 }
 
-/// Answers without the bar behind the last.
 fn answers_text(alloc: Global, answers: &str) -> Result<String, RowError> {
     text(alloc, answers.strip_suffix(" | ").unwrap_or(answers))
 }
 
-/// Calls of a device in memory. Given: calls. Found: what they answer, with bars between the answers.
+/// Calls of a device in memory. Given: calls. Found: their answers, with bars between them.
 pub fn memory_calls(alloc: Global, given: &str) -> Result<String, RowError> {
     let mut told = String::new(alloc);
     let mut rig = Rig::Memory(MemDevice::new(alloc, SIZE, 4, 400));
@@ -186,8 +174,7 @@ pub fn memory_calls(alloc: Global, given: &str) -> Result<String, RowError> {
     answers_text(alloc, told.as_str())
 }
 
-/// What a crash leaves of the images of the program `known_images`. Given: the writes that are kept. Found: block 1 of the log and
-/// block 2 of home.
+/// What a crash leaves of the images of the program `known_images`. Given: the kept writes. Found: block 1 of the log and block 2 of home.
 pub fn crashed_images(alloc: Global, given: &str) -> Result<String, RowError> {
     let keep = given.strip_prefix("keep").ok_or(RowError::Unread)?;
     let keep = numbers_of(alloc, keep)?;

@@ -1,6 +1,6 @@
-//! Rows of the texts in a log, by the plain program: chains and damage, newest copies, and copies that are covered.
+//! Rows of the texts in a log, by the plain program: chains and damage, newest copies, and covered copies.
 //!
-//! The blocks of the log stand one after the other from a place on, as `logs` spells them.
+//! The blocks of the log stand one after another from a place on, as `logs` spells them.
 ghost use Rattle.std.specs.Prelude.{◌<◌, ◌≤◌};
 
 use crate::logs::{Log, log_of};
@@ -15,7 +15,6 @@ use log_model::{Piece, Tag, Text};
 use std::alloc::Global;
 use std::fmt::Write;
 
-/// The blocks of a log, one after the other.
 fn blocks_of(alloc: Global, log: &Log) -> Result<Items<Block>, RowError> {
     let mut blocks = Items::new(alloc);
     for (_, block) in log.blocks.as_slice() {
@@ -24,7 +23,6 @@ fn blocks_of(alloc: Global, log: &Log) -> Result<Items<Block>, RowError> {
     Ok(blocks)
 }
 
-/// How many bytes a block number of a log has.
 fn number_bytes(log: &Log) -> usize
     ensures some { 0 < result }
     ensures few { result ≤ 8 }
@@ -32,7 +30,6 @@ fn number_bytes(log: &Log) -> usize
     if log.shape.measures.wide { 8 } else { 4 }
 }
 
-/// The texts of a log from this number on.
 fn texts_of(alloc: Global, log: &Log, number: u64) -> Result<Items<Text>, RowError> {
     let blocks = blocks_of(alloc, log)?;
     let size = log.shape.measures.block_size;
@@ -46,14 +43,12 @@ fn texts_of(alloc: Global, log: &Log, number: u64) -> Result<Items<Text>, RowErr
     )?)
 }
 
-/// The log that stands behind a line `number=N`, and that number.
 fn numbered_log(alloc: Global, given: &str) -> Result<(u64, Log), RowError> {
     let (head, lines) = given.split_once('\n').unwrap_or((given, ""));
     let [number] = values::<1>(head, "number")?;
     Ok((number, log_of(alloc, lines)?))
 }
 
-/// Adds the name of a log block, and the sequence in its header.
 fn add_header(told: &mut String, name: &str, block: &Block) -> Result<(), RowError> {
     let bytes = block.bytes();
     if bytes.len() < 12 {
@@ -66,7 +61,6 @@ fn add_header(told: &mut String, name: &str, block: &Block) -> Result<(), RowErr
     Ok(())
 }
 
-/// Adds a copy behind its tag.
 fn add_copy(alloc: Global, told: &mut String, tag: &Tag, copy: &Block) -> Result<(), RowError> {
     told.push(' ')?;
     told.push_str(tag_word(alloc, tag)?.as_str())?;
@@ -74,7 +68,6 @@ fn add_copy(alloc: Global, told: &mut String, tag: &Tag, copy: &Block) -> Result
     add_bytes(told, copy.bytes())
 }
 
-/// Adds the line of a piece.
 fn add_piece(alloc: Global, told: &mut String, piece: &Piece) -> Result<(), RowError> {
     match piece {
         Piece::Revokes(own, numbers) => {
@@ -93,7 +86,6 @@ fn add_piece(alloc: Global, told: &mut String, piece: &Piece) -> Result<(), RowE
     Ok(told.push('\n')?)
 }
 
-/// Adds the lines of a text.
 fn add_text(alloc: Global, told: &mut String, text: &Text) -> Result<(), RowError> {
     for piece in text.pieces.as_slice() {
         add_piece(alloc, told, piece)?;
@@ -102,7 +94,6 @@ fn add_text(alloc: Global, told: &mut String, text: &Text) -> Result<(), RowErro
     Ok(told.push('\n')?)
 }
 
-/// What is told of a malformed block.
 fn add_damage(told: &mut String, place: Option<usize>) -> Result<(), RowError> {
     match place {
         Some(place) => write!(told, "damage at {place}")?,
@@ -111,8 +102,8 @@ fn add_damage(told: &mut String, place: Option<usize>) -> Result<(), RowError> {
     Ok(())
 }
 
-/// Chains of a log. Given: a line `number=N`, and a log whose blocks are a lap from there on. Found: a line for each piece of its
-/// complete transactions and for each commit block, and the place in the lap, counted from 0, of a malformed block.
+/// Chains of a log. Given: a line `number=N`, and a log whose blocks are a lap from there on. Found: a line for each piece of its complete
+/// transactions and for each commit block, and the place in the lap, counted from 0, of a malformed block.
 pub fn chains(alloc: Global, given: &str) -> Result<String, RowError> {
     let (number, log) = numbered_log(alloc, given)?;
     let blocks = blocks_of(alloc, &log)?;
@@ -133,7 +124,6 @@ pub fn chains(alloc: Global, given: &str) -> Result<String, RowError> {
     Ok(told)
 }
 
-/// Adds the newest copy of a block, if there is one.
 fn add_newest(
     alloc: Global,
     told: &mut String,
@@ -148,8 +138,8 @@ fn add_newest(
     Ok(())
 }
 
-/// Newest copies. Given: a log, as `chains` takes it. Found: each home block of which its texts have a live copy, with the bytes of
-/// the newest, or `none`.
+/// Newest copies. Given: a log, as for `chains`. Found: each home block of which its texts have a live copy, with the newest one's bytes;
+/// or `none`.
 pub fn newest_copies(alloc: Global, given: &str) -> Result<String, RowError> {
     let (number, log) = numbered_log(alloc, given)?;
     let texts = texts_of(alloc, &log, number)?;
@@ -163,7 +153,6 @@ pub fn newest_copies(alloc: Global, given: &str) -> Result<String, RowError> {
     text(alloc, told.as_str().trim_end())
 }
 
-/// Adds the home blocks that are covered in the texts from one on.
 fn add_covered(
     told: &mut String,
     texts: &[Text],
@@ -179,8 +168,8 @@ fn add_covered(
     Ok(told.push('\n')?)
 }
 
-/// Copies that are covered. Given: a log, as `chains` takes it. Found: the home blocks that a revoke covers in the texts from
-/// each on, and behind the last.
+/// Covered copies. Given: a log, as for `chains`. Found: the home blocks that a revoke covers in the texts from each on, and after the
+/// last.
 pub fn covered_copies(alloc: Global, given: &str) -> Result<String, RowError> {
     let (number, log) = numbered_log(alloc, given)?;
     let texts = texts_of(alloc, &log, number)?;

@@ -1,7 +1,7 @@
 //! Rows of transactions, by the plain program: what they leave of their blocks.
 //!
-//! A step is spelled `9=11`, a write of the bytes 11 to block 9, `9=?11`, a read of them, or `9=-`, a revoke. An entry is spelled
-//! as the step that leaves it.
+//! A step is spelled `9=11`, a write of the bytes 11 to block 9; `9=?11`, a read of them; or `9=-`, a revoke. An entry is spelled as the
+//! step that leaves it.
 use format_rows::RowError;
 use format_rows::telling::{add_bytes, text};
 use format_rows::words::{cut, hex_bytes, number, number32, values};
@@ -10,12 +10,10 @@ use journal_plain::transactions::{after, entries};
 use std::alloc::Global;
 use std::fmt::Write;
 
-/// The block of these bytes.
 fn block_of(alloc: Global, digits: &str) -> Result<Block, RowError> {
     Ok(Block::new(hex_bytes(alloc, digits)?)?)
 }
 
-/// What a step does, as it is spelled behind `=`.
 fn op_of(alloc: Global, does: &str) -> Result<Op, RowError> {
     if does == "-" {
         return Ok(Op::Revoke);
@@ -26,7 +24,6 @@ fn op_of(alloc: Global, does: &str) -> Result<Op, RowError> {
     }
 }
 
-/// The step of a word, made by one handle.
 fn step_of(alloc: Global, word: &str) -> Result<Step, RowError> {
     let (block, does) = cut(word, "=")?;
     Ok(Step {
@@ -36,7 +33,6 @@ fn step_of(alloc: Global, word: &str) -> Result<Step, RowError> {
     })
 }
 
-/// The steps of these words.
 fn steps_of(alloc: Global, words: &str) -> Result<Items<Step>, RowError> {
     let mut steps = Items::new(alloc);
     for word in words.split_whitespace() {
@@ -45,7 +41,6 @@ fn steps_of(alloc: Global, words: &str) -> Result<Items<Step>, RowError> {
     Ok(steps)
 }
 
-/// Adds an entry.
 fn add_entry(told: &mut String, block: BlockNo, entry: &Entry) -> Result<(), RowError> {
     if !told.is_empty() {
         told.push(' ')?;
@@ -68,7 +63,6 @@ pub fn transaction_entries(alloc: Global, given: &str) -> Result<String, RowErro
     Ok(told)
 }
 
-/// The transaction that is spelled by its number, a colon and its steps.
 fn sealed_of(alloc: Global, spelled: &str) -> Result<Sealed, RowError> {
     let (tid, steps) = cut(spelled, ":")?;
     Ok(Sealed {
@@ -78,7 +72,6 @@ fn sealed_of(alloc: Global, spelled: &str) -> Result<Sealed, RowError> {
     })
 }
 
-/// The transactions of a text, which bars separate.
 fn history_of(alloc: Global, spelled: &str) -> Result<Items<Sealed>, RowError> {
     let mut history = Items::new(alloc);
     for transaction in spelled.split('|') {
@@ -87,7 +80,6 @@ fn history_of(alloc: Global, spelled: &str) -> Result<Items<Sealed>, RowError> {
     Ok(history)
 }
 
-/// What a block is.
 fn content_text(alloc: Global, content: &Content) -> Result<String, RowError> {
     let mut told = String::new(alloc);
     match content {
@@ -97,8 +89,8 @@ fn content_text(alloc: Global, content: &Content) -> Result<String, RowError> {
     Ok(told)
 }
 
-/// What a block is after the first transactions. Given: `n=N block=N`, and behind a bar each the transactions: the number, a
-/// colon and the steps. Found: the bytes of the block after the first n of them, or `home` where home says what it is.
+/// The content of a block after the first transactions. Given: `n=N block=N`, and for each transaction a bar, its number, a colon and its
+/// steps. Found: the bytes of the block after the first n of them, or `home` if home has them.
 pub fn contents_after(alloc: Global, given: &str) -> Result<String, RowError> {
     let (place, history) = cut(given, "|")?;
     let [n, block] = values::<2>(place, "n block")?;

@@ -59,7 +59,6 @@ impl Tally {
         Ok(self.answers.push((String::from_str(alloc, answer)?, 1))?)
     }
 
-    /// A line with the number of images and of their first openings' writes, and one for each answer.
     fn text(&self, alloc: Global) -> Result<String, AllocError> {
         let mut all = format!(in alloc; "{} images, writes {}\n", self.images, self.writes)?;
         for (answer, count) in &self.answers {

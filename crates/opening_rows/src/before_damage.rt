@@ -8,7 +8,6 @@ use format_rows::telling::refusal_text;
 use log_rows::logs::{device_of, log_of};
 use std::alloc::Global;
 
-/// The answer of such an opening, and the device after it.
 fn taken_or_refused(alloc: Global, device: MemDevice) -> Result<(String, MemDevice), RowError> {
     match open_before_damage(alloc, device) {
         Ok((opened, stopped_by)) => {

@@ -6,7 +6,7 @@ use journal_model::{Block, Items};
 use log_rows::logs::{Log, block_at, log_of};
 use std::alloc::Global;
 
-/// Which bytes are changed: each of these bytes of these blocks, to each of these values in turn.
+/// Each of these bytes of these blocks gets each of these values in turn.
 #[derive(Drop)]
 struct Changes {
     blocks: (u64, u64),
@@ -14,7 +14,7 @@ struct Changes {
     values: Vec<u8>,
 }
 
-/// The changes of a line like `blocks=0..32 bytes=0..63 values=00ff`.
+/// Reads a line like `blocks=0..32 bytes=0..63 values=00ff`.
 fn changes_of(alloc: Global, line: &str) -> Result<Changes, RowError> {
     let mut words = line.split_whitespace();
     let blocks = series(value_of(next_word(&mut words)?, "blocks")?)?;
@@ -28,7 +28,6 @@ fn changes_of(alloc: Global, line: &str) -> Result<Changes, RowError> {
     })
 }
 
-/// The log with these bytes as the block at this place.
 fn with_block(alloc: Global, log: &Log, place: u64, bytes: Vec<u8>) -> Result<Log, RowError> {
     let mut blocks = Items::new(alloc);
     for (other, block) in log.blocks.as_slice() {
@@ -41,14 +40,13 @@ fn with_block(alloc: Global, log: &Log, place: u64, bytes: Vec<u8>) -> Result<Lo
     })
 }
 
-/// The log with this value as byte `at` of the block at this place.
+/// The log with this value as byte `at` of a block.
 fn changed(alloc: Global, log: &Log, (place, at): (u64, u64), value: u8) -> Result<Log, RowError> {
     let mut bytes = block_at(alloc, log, place)?.bytes().to_vec(alloc)?;
     *bytes.get_mut(at as usize).ok_or(RowError::Unread)? = value;
     with_block(alloc, log, place, bytes)
 }
 
-/// Opens the images with one changed byte.
 fn change_byte(
     alloc: Global,
     log: &Log,
@@ -65,7 +63,6 @@ fn change_byte(
     Ok(())
 }
 
-/// Opens the images with a changed byte in one block.
 fn change_block(
     alloc: Global,
     log: &Log,
@@ -80,7 +77,6 @@ fn change_block(
     Ok(())
 }
 
-/// Opens all images.
 fn change_all(alloc: Global, log: &Log, changes: &Changes, tally: &mut Tally) -> Result<(), Stop> {
     let (first, last) = changes.blocks;
     for place in first..=last {

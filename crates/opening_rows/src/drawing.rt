@@ -25,7 +25,6 @@ impl Draws {
         }
     }
 
-    /// The next number, below `end`.
     fn below(&mut self, end: u64) -> u64
         requires { 0 < end }
         ensures { result < end }
@@ -33,7 +32,6 @@ impl Draws {
         self.generator.next_u64() % end
     }
 
-    /// True once in `times` times.
     fn once_in(&mut self, times: u64) -> bool
         requires { 0 < times }
     {
@@ -41,7 +39,6 @@ impl Draws {
     }
 }
 
-/// The measures of a log.
 #[derive(Clone, Copy)]
 struct Measures {
     /// The first block of the ring, and the one after its last.
@@ -69,7 +66,7 @@ pub struct RandomLog {
     blocks: Vec<String>,
 }
 
-/// A number for a log's start: a small one, or one near the end of the numbers.
+/// A log's first number: small, or near the end of the numbers.
 fn draw_sequence(draws: &mut Draws) -> u64 {
     match draws.below(16) {
         0 => 0xffff_fffc + draws.below(4),
@@ -79,7 +76,6 @@ fn draw_sequence(draws: &mut Draws) -> u64 {
 }
 
 impl Measures {
-    /// Measures within their limits, for block numbers of 64 bits or 32.
     fn draw(draws: &mut Draws, wide: bool) -> Measures {
         let maxlen = 17 + draws.below(17);
         let first = 1 + draws.below(maxlen - 16);
@@ -112,7 +108,7 @@ impl Measures {
     }
 }
 
-/// The words of a copy: a few bytes at its front and one further on, mostly near; zeros; or the beginning of a log block.
+/// A copy: a few bytes at its front and one further on; zeros; or the beginning of a log block.
 fn draw_copy(alloc: Global, draws: &mut Draws, measures: &Measures) -> Result<String, AllocError> {
     match draws.below(40) {
         0 => format!(in alloc; "commit={}", measures.number(draws.below(3))),
@@ -130,7 +126,7 @@ fn draw_copy(alloc: Global, draws: &mut Draws, measures: &Measures) -> Result<St
     }
 }
 
-/// The words of a block before the log is written. Outside the ring its number may be a great one.
+/// A block before the log is written; outside the ring its number may be a great one.
 fn draw_old_block(
     alloc: Global,
     draws: &mut Draws,
@@ -162,7 +158,7 @@ fn draw_old_blocks(
     Ok(blocks)
 }
 
-/// A byte with no bit, all bits, one bit or any bits.
+/// No bit, all bits, one bit or any bits.
 fn draw_byte(draws: &mut Draws) -> u64 {
     match draws.below(4) {
         0 => 0,
@@ -172,7 +168,7 @@ fn draw_byte(draws: &mut Draws) -> u64 {
     }
 }
 
-/// The number of a home block; sometimes home lacks it.
+/// A home block; sometimes home lacks it.
 fn draw_home_block(draws: &mut Draws, measures: &Measures) -> u64 {
     let block = draws.below(measures.home.max(1));
     if draws.once_in(64) {
@@ -227,7 +223,6 @@ fn draw_descriptor(
     Ok(words)
 }
 
-/// The words of a wrong superblock field.
 fn wrong_field(
     alloc: Global,
     draws: &mut Draws,
@@ -288,14 +283,12 @@ impl RandomLog {
         Ok(log)
     }
 
-    /// Puts a block at a place.
     fn put(&mut self, place: usize, words: String) {
         if let Some(block) = self.blocks.get_mut(place) {
             *block = words;
         }
     }
 
-    /// Writes the next block of the log, if the ring has room.
     fn write(&mut self, words: String) {
         let measures = self.measures;
         let used = self.used;
@@ -305,7 +298,7 @@ impl RandomLog {
         }
     }
 
-    /// Writes a transaction: revoke blocks and copies, and mostly a commit block.
+    /// Writes revoke blocks and copies, and mostly a commit block.
     fn write_transaction(
         &mut self,
         alloc: Global,
@@ -321,7 +314,6 @@ impl RandomLog {
         Ok(())
     }
 
-    /// Writes a revoke block, or a descriptor with its copies.
     fn write_piece(
         &mut self,
         alloc: Global,
@@ -341,7 +333,7 @@ impl RandomLog {
         Ok(())
     }
 
-    /// Changes up to two bytes of the log, and once in eight times puts a block with a number near the log's.
+    /// Changes up to two bytes, and once in eight times puts a block with a number near the log's.
     fn damage(&mut self, alloc: Global, draws: &mut Draws) -> Result<(), AllocError> {
         let measures = self.measures;
         let bytes = draws.below(4).saturating_sub(1);
@@ -356,7 +348,7 @@ impl RandomLog {
         Ok(())
     }
 
-    /// Changes a byte at the front of a written block or of one soon after these.
+    /// Changes a byte at the front of a written block, or of one of the next two.
     fn change_byte(&mut self, draws: &mut Draws) -> Result<(), AllocError> {
         let (measures, used) = (self.measures, self.used);
         let place = measures.place(draws.below(used.saturating_add(2)));

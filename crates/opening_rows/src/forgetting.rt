@@ -84,7 +84,6 @@ pub fn forgetful_openings(alloc: Global, given: &str) -> Result<String, RowError
     Err(RowError::Unread)
 }
 
-/// The line of such an opening, and whether one of its reads was wrong.
 fn forgetful_opening(
     alloc: Global,
     device: Forgetful<MemDevice>,

@@ -1,7 +1,5 @@
-//! Does what rows of openings and of upgrades say: openings of one log, of each that differs from it in a byte, and of random ones.
-//!
-//! A row gives a text, and the text that is wanted. Each kind of rows is a function here, as in `log_rows`, whose module `logs` says how
-//! rows spell logs. Openings of many logs are compared with the plain program.
+//! Rows of openings and upgrades: of one log, of each that differs from it in a byte, and of random ones. A row gives a text, and the text
+//! that is wanted; each kind of rows is a function. The module `logs` of `log_rows` says how rows spell logs.
 #![tactic(auto)]
 
 mod agreement;

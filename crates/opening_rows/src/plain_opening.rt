@@ -45,7 +45,6 @@ struct Found {
     texts: Items<Text>,
 }
 
-/// All blocks of the log's area.
 fn area_of(alloc: Global, log: &Log) -> Result<Items<Block>, AllocError> {
     let mut blocks = Items::new(alloc);
     for place in 0..log.shape.measures.log_blocks {
@@ -54,7 +53,7 @@ fn area_of(alloc: Global, log: &Log) -> Result<Items<Block>, AllocError> {
     Ok(blocks)
 }
 
-/// The blocks of the ring, in order from the log's start.
+/// The ring's blocks, from the log's start on.
 fn lap_of(alloc: Global, area: &[Block], fields: &Super) -> Result<Items<Block>, AllocError> {
     let start = fields.s_start as usize;
     let mut lap = Items::new(alloc);
@@ -63,7 +62,6 @@ fn lap_of(alloc: Global, area: &[Block], fields: &Super) -> Result<Items<Block>,
     Ok(lap)
 }
 
-/// Adds the blocks from one place up to another.
 fn push_blocks(
     lap: &mut Items<Block>,
     area: &[Block],
@@ -86,7 +84,6 @@ fn place_of(fields: &Super, behind: usize) -> u64 {
     }
 }
 
-/// How many bytes a block number of this log has.
 fn number_bytes(fields: &Super) -> usize
     ensures some { 0 < result }
     ensures few { result ≤ 8 }
@@ -111,7 +108,7 @@ fn texts_of(
     Ok(chain(alloc, size, bytes, home, number, lap.as_slice())?)
 }
 
-/// Whether a block begins as one of the log's own, with a sequence above `end`.
+/// Whether a block has a log header with a sequence above `end`.
 fn is_ahead(block: &Block, end: u64) -> bool {
     let bytes = block.bytes();
     if bytes.len() < 12 {
@@ -123,7 +120,6 @@ fn is_ahead(block: &Block, end: u64) -> bool {
     }
 }
 
-/// Fails if a block of the ring is ahead of the end.
 fn none_ahead(area: &[Block], fields: &Super, end: u64) -> Result<(), JournalError> {
     for place in fields.s_first..fields.s_maxlen {
         if let Some(block) = area.get(place as usize)
@@ -135,7 +131,6 @@ fn none_ahead(area: &[Block], fields: &Super, end: u64) -> Result<(), JournalErr
     Ok(())
 }
 
-/// The contents of a log, or why it is refused.
 fn find(alloc: Global, log: &Log) -> Result<Found, NotOpened> {
     let area = area_of(alloc, log)?;
     let front = area
@@ -161,7 +156,7 @@ fn find(alloc: Global, log: &Log) -> Result<Found, NotOpened> {
     })
 }
 
-/// The line of each home block whose newest copy is not zeros, and how many blocks have a copy.
+/// The lines of home blocks with a copy that is not zeros, and how many have a copy.
 fn home_of(alloc: Global, log: &Log, texts: &[Text]) -> Result<(String, u64), RowError> {
     let mut told = String::new(alloc);
     let mut count = 0u64;
@@ -174,7 +169,7 @@ fn home_of(alloc: Global, log: &Log, texts: &[Text]) -> Result<(String, u64), Ro
     Ok((told, count))
 }
 
-/// The answer of a second opening after one that left a clean log with this number.
+/// The answer of a second opening, of a clean log with this number.
 fn again_of(alloc: Global, limit: u64) -> Result<String, RowError> {
     if limit < u64::from(GREATEST_NUMBER) {
         report_text(alloc, clean_report(limit), limit.saturating_add(1))
@@ -183,7 +178,6 @@ fn again_of(alloc: Global, limit: u64) -> Result<String, RowError> {
     }
 }
 
-/// The report of a clean log.
 fn clean_report(ends_at: u64) -> Report {
     Report {
         clean: true,
@@ -192,7 +186,7 @@ fn clean_report(ends_at: u64) -> Report {
     }
 }
 
-/// The result for a clean log: nothing is written.
+/// Nothing is written.
 fn told_clean(alloc: Global, end: u64) -> Result<Told, RowError> {
     Ok(Told {
         answer: report_text(alloc, clean_report(end), end.saturating_add(1))?,
@@ -203,7 +197,7 @@ fn told_clean(alloc: Global, end: u64) -> Result<Told, RowError> {
     })
 }
 
-/// The result for a log that is not clean: each block with a live copy is written once, and then the superblock.
+/// Each block with a live copy is written once, and then the superblock.
 fn told_recovered(alloc: Global, log: &Log, end: u64, texts: &[Text]) -> Result<Told, RowError> {
     let next = end.saturating_add(1);
     let (home, count) = home_of(alloc, log, texts)?;
@@ -221,7 +215,7 @@ fn told_recovered(alloc: Global, log: &Log, end: u64, texts: &[Text]) -> Result<
     })
 }
 
-/// The result for a refusal: nothing is written, and a second opening is refused as well.
+/// Nothing is written, and a second opening is refused as well.
 fn told_refusal(alloc: Global, refusal: JournalError) -> Result<Told, RowError> {
     Ok(Told {
         answer: refusal_text(alloc, refusal)?,

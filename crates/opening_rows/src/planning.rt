@@ -8,13 +8,11 @@ use log_rows::logs::{device_of, log_of};
 use recovery::{Plan, plan_opening};
 use std::alloc::Global;
 
-/// The line of a plan.
 fn plan_text(alloc: Global, plan: Plan) -> Result<String, RowError> {
     let told = report_text(alloc, plan.report, u64::from(plan.next.0))?;
     Ok(format!(in alloc; "{told} blocks={}", plan.blocks)?)
 }
 
-/// The line of a plan, with what it would pass over.
 fn plan_in_spite_of(
     alloc: Global,
     plan: Plan,

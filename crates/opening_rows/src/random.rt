@@ -15,7 +15,6 @@ fn name_of(answer: &str) -> &str {
     }
 }
 
-/// Draws an image, with block numbers of 64 bits or 32, and opens it.
 fn open_one(alloc: Global, draws: &mut Draws, wide: bool, tally: &mut Tally) -> Result<(), Stop> {
     let spelled = RandomLog::draw(alloc, draws, wide)?.text(alloc)?;
     let log = log_of(alloc, spelled.as_str())?;

@@ -30,7 +30,6 @@ fn read_log(alloc: Global, device: &mut MemDevice, place: u64) -> Result<Vec<u8>
     Ok(bytes)
 }
 
-/// Adds a line for each changed byte of a block.
 fn add_changes(told: &mut String, place: u64, old: &[u8], new: &[u8]) -> Result<(), RowError> {
     for (byte, (before, after)) in old.iter().zip(new).enumerate() {
         if before != after {
@@ -43,7 +42,6 @@ fn add_changes(told: &mut String, place: u64, old: &[u8], new: &[u8]) -> Result<
     Ok(())
 }
 
-/// The lines of the changed bytes of a log's area.
 fn changes_text(alloc: Global, log: &Log, device: &mut MemDevice) -> Result<String, RowError> {
     let mut told = String::new(alloc);
     for place in 0..log.shape.measures.log_blocks {
@@ -70,8 +68,8 @@ pub fn upgrades(alloc: Global, given: &str) -> Result<String, RowError> {
     Ok(told)
 }
 
-/// The answer of an upgrade of a device that stops at a write or fails a call (0 for none); then, with these writes kept, the superblock's
-/// features and what an opening finds. Also returns how many calls the upgrade made.
+/// An upgrade that stops at a write or fails a call (0 for none): its answer, and with these writes kept the superblock's features and what
+/// an opening finds; also how many calls it made.
 fn broken_upgrade(
     alloc: Global,
     log: &Log,

@@ -28,7 +28,6 @@ pub fn changed<J: Runner>(alloc: Global, journal: &J, given: &str) -> Result<Str
     Ok(found)
 }
 
-/// The answer of a run: the verdict, or a refusal.
 type Answer = Result<bool, JournalError>;
 
 fn write_answer(found: &mut String, answer: Answer) -> Result<(), AllocError> {
@@ -38,7 +37,7 @@ fn write_answer(found: &mut String, answer: Answer) -> Result<(), AllocError> {
     }
 }
 
-/// The answer of a call whose output fails only for lack of memory.
+/// A call whose output fails only for lack of memory.
 fn answer_of<T: Drop>(answer: Result<T, Fault>) -> Result<Result<T, JournalError>, RowError> {
     match answer {
         Ok(value) => Ok(Ok(value)),
@@ -47,7 +46,7 @@ fn answer_of<T: Drop>(answer: Result<T, Fault>) -> Result<Result<T, JournalError
     }
 }
 
-/// Runs a script's operations over its log with these bytes, and judges the image with those.
+/// Runs a script over its log with the bytes `before`, and judges the image with the bytes `after`.
 fn run_changed<J: Runner>(
     alloc: Global,
     journal: &J,
@@ -64,7 +63,6 @@ fn run_changed<J: Runner>(
     }
 }
 
-/// Opens a device's log, and runs operations on it.
 fn run_over<J: Runner>(
     alloc: Global,
     journal: &J,
@@ -78,7 +76,6 @@ fn run_over<J: Runner>(
     }
 }
 
-/// The formatted device of a script, with these bytes.
 fn changed_disk(alloc: Global, script: &Script, lines: &str) -> Result<MemDevice, RowError> {
     match empty_disk(alloc, &script.measures) {
         Ok(disk) => with_bytes(alloc, disk, lines),
@@ -86,7 +83,6 @@ fn changed_disk(alloc: Global, script: &Script, lines: &str) -> Result<MemDevice
     }
 }
 
-/// Judges what a run left, with these bytes in the image.
 fn judge_changed(
     alloc: Global,
     script: &Script,
@@ -108,7 +104,7 @@ fn judge_changed(
     answer_of(judge(alloc, changed, &[], &named, out))
 }
 
-/// The device with the bytes of these lines, durably. Its writes are numbered from 1 again.
+/// The device with the bytes of these lines, durably; its writes are numbered from 1 again.
 fn with_bytes(alloc: Global, mut device: MemDevice, lines: &str) -> Result<MemDevice, RowError> {
     for line in lines.lines() {
         write_line(alloc, &mut device, line)?;
@@ -125,7 +121,6 @@ fn flush(device: &mut MemDevice, area: Area) -> Result<(), RowError> {
     }
 }
 
-/// Writes the bytes of a line into the block that it names.
 fn write_line(alloc: Global, device: &mut MemDevice, line: &str) -> Result<(), RowError> {
     let (place, digits) = cut(line, ": ")?;
     let (area, n, from) = place_of(place)?;
@@ -140,14 +135,14 @@ fn write_line(alloc: Global, device: &mut MemDevice, line: &str) -> Result<(), R
     }
 }
 
-/// The area, the block and the place of a text like `log 3 from 8`.
+/// Reads a place like `log 3 from 8`.
 fn place_of(text: &str) -> Result<(Area, u64, usize), RowError> {
     let (block, from) = cut(text, " from ")?;
     let (area, n) = named_block(block)?;
     Ok((area, n, number(from)? as usize))
 }
 
-/// The area and the block of a text like `log 3`.
+/// Reads a block's name, like `log 3`.
 fn named_block(text: &str) -> Result<(Area, u64), RowError> {
     let (area, n) = cut(text, " ")?;
     match area {
@@ -157,7 +152,6 @@ fn named_block(text: &str) -> Result<(Area, u64), RowError> {
     }
 }
 
-/// Puts bytes into a block, from this place on.
 fn put(block: &mut [u8], from: usize, bytes: &[u8]) -> Result<(), RowError> {
     if from.saturating_add(bytes.len()) > block.len() {
         return Err(RowError::Unread);
@@ -168,7 +162,6 @@ fn put(block: &mut [u8], from: usize, bytes: &[u8]) -> Result<(), RowError> {
     Ok(())
 }
 
-/// Reads a block of a device.
 fn block_of(
     alloc: Global,
     device: &mut MemDevice,
@@ -201,7 +194,6 @@ pub fn bytes<J: Runner>(alloc: Global, journal: &J, given: &str) -> Result<Strin
     Ok(all)
 }
 
-/// The device after the run of a script.
 fn device_behind<J: Runner>(
     alloc: Global,
     journal: &J,
@@ -213,7 +205,6 @@ fn device_behind<J: Runner>(
     }
 }
 
-/// The device after a crash that keeps no unflushed write, and an opening of its log.
 fn opened_device(alloc: Global, device: MemDevice) -> Result<MemDevice, RowError> {
     match open(alloc, device.crash(&[])) {
         Ok(opened) => Ok(opened.into_device()),
@@ -221,7 +212,6 @@ fn opened_device(alloc: Global, device: MemDevice) -> Result<MemDevice, RowError
     }
 }
 
-/// Writes these lines with the bytes that they name.
 fn write_lines(
     all: &mut String,
     alloc: Global,
@@ -236,7 +226,6 @@ fn write_lines(
     Ok(device)
 }
 
-/// Writes the bytes that a line names.
 fn write_named(
     all: &mut String,
     alloc: Global,
@@ -249,7 +238,7 @@ fn write_named(
     write_part(all, &bytes, part)
 }
 
-/// Writes the bytes of a block that a text like `8 for 4` names, as far as there are any.
+/// Writes the bytes of a text like `8 for 4`, as far as there are any.
 fn write_part(all: &mut String, block: &[u8], part: &str) -> Result<(), RowError> {
     let (from, count) = cut(part, " for ")?;
     let from = number(from)? as usize;
@@ -262,7 +251,7 @@ fn write_part(all: &mut String, block: &[u8], part: &str) -> Result<(), RowError
     }
 }
 
-/// Writes bytes as hex digits; more than eight zeros at the end are counted instead.
+/// Writes hex digits; counts more than eight zeros at the end instead.
 fn write_bytes(all: &mut String, bytes: &[u8]) -> Result<(), AllocError> {
     let used = bytes
         .iter()

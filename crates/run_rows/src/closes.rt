@@ -57,7 +57,7 @@ pub fn interrupted_closes(alloc: Global, given: &str) -> Result<String, RowError
     Ok(endings_text(alloc, &endings, places)?)
 }
 
-/// Adds how closes over a device with this fault end, for each choice of so many last writes that are kept.
+/// Adds how closes with this fault end, for each choice of the last `back` writes.
 fn add_closes(
     alloc: Global,
     fault: Fault,
@@ -78,7 +78,7 @@ fn add_closes(
     Ok(())
 }
 
-/// How a close ends, if the device then loses power and keeps these writes.
+/// How a close ends if the device then loses power and keeps these writes.
 fn ending_of(alloc: Global, closed: Closed, kept: &[u64]) -> Result<String, RowError> {
     let mut told = String::new(alloc);
     write!(
@@ -95,7 +95,6 @@ fn ending_of(alloc: Global, closed: Closed, kept: &[u64]) -> Result<String, RowE
     Ok(told)
 }
 
-/// The fault of a row's first step.
 fn fault_of(step: &str) -> Result<Fault, RowError> {
     if let Some(k) = step.strip_prefix("fail ") {
         return Ok(Fault::Fail(number(k)?));
@@ -106,7 +105,6 @@ fn fault_of(step: &str) -> Result<Fault, RowError> {
     }
 }
 
-/// How many writes an opening makes after a close and a loss of power.
 fn writes_of_opening(alloc: Global, closed: Closed) -> Result<u64, RowError> {
     match open(alloc, closed.device.crash(&[])) {
         Ok(opened) => Ok(opened.into_device().writes()),
@@ -114,8 +112,8 @@ fn writes_of_opening(alloc: Global, closed: Closed) -> Result<u64, RowError> {
     }
 }
 
-/// The lines of the verdict on what a close left, if the device loses power and keeps these writes, and whether it is right. Committed
-/// transactions count as acknowledged.
+/// The lines of the verdict after a close and a loss of power that keeps these writes, and whether it is right. Committed transactions
+/// count as acknowledged.
 fn judged(alloc: Global, closed: Closed, kept: &[u64]) -> Result<(String, bool), RowError> {
     let Closed {
         answer: _,

@@ -60,7 +60,6 @@ pub fn close_after(alloc: Global, fault: Fault, steps: &str) -> Result<Closed, R
     close(alloc, user)
 }
 
-/// Closes a journal without open handles.
 fn close(alloc: Global, user: User) -> Result<Closed, RowError> {
     let User { journal, named } = user;
     if journal.has_open_handles() {
@@ -84,7 +83,6 @@ fn close(alloc: Global, user: User) -> Result<Closed, RowError> {
     })
 }
 
-/// A journal on an empty log, over a device with this fault.
 fn new_journal(
     alloc: Global,
     fault: Fault,
@@ -103,7 +101,6 @@ fn calls_of_opening(alloc: Global) -> Result<u64, RowError> {
     Ok(opened(alloc, 0, 0)?.into_device().calls())
 }
 
-/// An empty log, opened on a device that stops at a write or fails a call.
 fn opened(alloc: Global, stop: u64, fail: u64) -> Result<Opened<FaultyDevice>, RowError> {
     let mut device = MemDevice::new(alloc, 1024, 33, 64);
     if format(&mut device, 33, &[0xaa; 16], false).is_err() {
@@ -133,7 +130,7 @@ fn make_step(alloc: Global, user: &mut User, step: &str) -> Result<(), RowError>
     write_and_stop(alloc, user, step)
 }
 
-/// Lets a handle write its blocks and stop, and requests a commit if the step says so.
+/// Lets a handle write its blocks and stop; requests a commit if the step says so.
 fn write_and_stop(alloc: Global, user: &mut User, step: &str) -> Result<(), RowError> {
     let (writes, request) = match step.strip_suffix(", request") {
         Some(writes) => (writes, true),
@@ -162,7 +159,6 @@ fn new_handle(user: &mut User) -> Result<Handle, RowError> {
     }
 }
 
-/// Writes the blocks of the words.
 fn write_all(
     alloc: Global,
     user: &mut User,

@@ -1,4 +1,4 @@
-//! Gathers the ways in which runs end that are interrupted at one place after another.
+//! Gathers the ways in which interrupted runs end.
 use crate::scripts::given_script;
 use crate::texts::numbers_in;
 use format_rows::RowError;
@@ -97,7 +97,6 @@ fn add_to(ending: &mut Ending, place: Option<u64>) -> Result<(), AllocError> {
     }
 }
 
-/// Adds a number to series of numbers; it may continue the last.
 fn add_number(series: &mut Vec<(u64, u64)>, k: u64) -> Result<(), AllocError> {
     match series.last_mut() {
         Some((_, last)) if *last == k || last.saturating_add(1) == k => {

@@ -34,7 +34,7 @@ pub fn images<J: Runner>(alloc: Global, journal: &J, given: &str) -> Result<Stri
     Ok(told)
 }
 
-/// The numbers of a text; `None` if a word is no number.
+/// `None` if a word is no number.
 fn all_numbers(alloc: Global, text: &str) -> Result<Option<Vec<u64>>, AllocError> {
     let mut numbers = Vec::new(alloc);
     for word in text.split_whitespace() {
@@ -46,14 +46,13 @@ fn all_numbers(alloc: Global, text: &str) -> Result<Option<Vec<u64>>, AllocError
     Ok(Some(numbers))
 }
 
-/// A blank device of a script's measures.
 fn blank(alloc: Global, script: &Script) -> MemDevice {
     let measures = &script.measures;
     let log_blocks = u64::from(measures.log_blocks);
     MemDevice::new(alloc, measures.block_size, log_blocks, measures.home_blocks)
 }
 
-/// What the opening found of a run's image that is copied to this device, or why there is none.
+/// What the opening found of a run's image that is copied, or why there is none.
 fn opening_of_run<J: Runner, D: Device>(
     alloc: Global,
     journal: &J,
@@ -86,7 +85,6 @@ fn opening_of_run<J: Runner, D: Device>(
     }
 }
 
-/// What an opening finds of the durable part of the copy.
 fn opening_of_copy(alloc: Global, copy: MemDevice) -> Result<String, RowError> {
     match open(alloc, copy.crash(&[])) {
         Ok(opened) => {

@@ -1,7 +1,5 @@
-//! Does what rows of runs say: reads scripts; runs that stop, and openings that stop, also on devices that have lost no power; copies
-//! images; runs over logs changed by hand; and closes journals.
-//!
-//! A row gives a text, and the text that is wanted. Each kind of rows is a function here.
+//! Rows of runs: scripts, stops of runs and of openings, copied images, logs changed by hand, and closes. A row gives a text, and the text
+//! that is wanted; each kind of rows is a function.
 #![tactic(auto)]
 
 pub mod changed;

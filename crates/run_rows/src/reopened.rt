@@ -42,7 +42,6 @@ struct Failed {
     first: Report,
 }
 
-/// Runs the script with a failure of this call.
 fn failed_of<J: Runner>(
     alloc: Global,
     journal: &J,
@@ -66,7 +65,7 @@ fn failed_of<J: Runner>(
     Ok(Failed { run, named, first })
 }
 
-/// Adds how openings of the device end that stop at write `k`, for each choice of the last writes up to that.
+/// Adds how openings that stop at write `k` end, for each choice of the last writes.
 fn add_stops(
     alloc: Global,
     given: &Given,
@@ -82,7 +81,6 @@ fn add_stops(
     Ok(())
 }
 
-/// Adds how an opening of the device ends that stops at write `k` and keeps these.
 fn add_stop(
     alloc: Global,
     failed: &Failed,
@@ -101,7 +99,6 @@ fn add_stop(
     Ok(note(alloc, endings, text, Some(k))?)
 }
 
-/// Judges an opening that did not stop.
 fn judge_whole(
     alloc: Global,
     failed: &Failed,
@@ -117,7 +114,6 @@ fn judge_whole(
     right_of(judge_opened(alloc, opened, recorded, &failed.named, out))
 }
 
-/// Opens the crash image of a stopped opening, and judges that.
 fn judge_left(
     alloc: Global,
     failed: &Failed,

@@ -5,7 +5,6 @@ use journal_script::{Measures, Operation, Script, ScriptError, read};
 use std::alloc::{AllocError, Global};
 use std::fmt::Write;
 
-/// The script of a text; `None` if it is no script.
 fn script_of(alloc: Global, text: &[u8]) -> Result<Option<Script>, RowError> {
     match read(alloc, text) {
         Ok(script) => Ok(Some(script)),
@@ -23,7 +22,7 @@ pub fn given_script(alloc: Global, text: &str) -> Result<Script, RowError> {
     script_of(alloc, text.as_bytes())?.ok_or(RowError::Unread)
 }
 
-/// The bytes of a text in which `\xff` is the byte 255, which no text has.
+/// The bytes of a text in which `\xff` stands for the byte 255.
 fn bytes_of(alloc: Global, text: &str) -> Result<Vec<u8>, AllocError> {
     let mut bytes = Vec::new(alloc);
     for (i, part) in text.split(r"\xff").enumerate() {

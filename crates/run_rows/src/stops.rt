@@ -19,7 +19,7 @@ pub fn stops<J: Runner>(alloc: Global, journal: &J, given: &str) -> Result<Strin
     Ok(endings_text(alloc, &endings, "stops")?)
 }
 
-/// Adds how runs end that stop at write `k`, for each choice of the last writes up to that.
+/// Adds how runs that stop at write `k` end, for each choice of the last writes.
 fn add_stop<J: Runner>(
     alloc: Global,
     journal: &J,
@@ -46,7 +46,6 @@ const NO_STOP: Stop<'static> = Stop {
     keep: &[],
 };
 
-/// Adds how a run ends that stops at write `k` and keeps these.
 fn add_run<J: Runner>(
     alloc: Global,
     journal: &J,
@@ -67,7 +66,6 @@ fn add_run<J: Runner>(
     }
 }
 
-/// Adds how a run ends that printed these lines.
 fn add_lines(
     alloc: Global,
     lines: &str,
@@ -97,7 +95,7 @@ pub fn stops_of_openings<J: Runner>(
     Ok(endings_text(alloc, &endings, "stops")?)
 }
 
-/// Adds how openings end that stop at write `k`, for each choice of the last writes up to that.
+/// Adds how openings that stop at write `k` end, for each choice of the last writes.
 fn add_openings<J: Runner>(
     alloc: Global,
     journal: &J,
@@ -112,7 +110,6 @@ fn add_openings<J: Runner>(
     Ok(())
 }
 
-/// Adds how an opening ends that stops at write `k` and keeps these.
 fn add_opening<J: Runner>(
     alloc: Global,
     journal: &J,
@@ -133,7 +130,7 @@ fn add_opening<J: Runner>(
     }
 }
 
-/// Adds how an opening ends that printed these lines, from the line of the last opening on.
+/// Adds an ending from these lines, from the last opening's on.
 fn add_opened(
     alloc: Global,
     lines: &str,

@@ -16,8 +16,8 @@ use Rattle.group_commit.specs.Extension.{EndsHandle}
 use Rattle.journal_script.specs.declared.script.Operation.{Operation}
 use Rattle.script_client.specs.Told.{AreDirectsOf, greatest_of}
 
--- the world of a journal in this phase, on a device that its log was opened on with this disk; these were its direct writes, and
--- these transactions were answered committed
+-- the world of a journal in this phase, on a device whose log was opened with this disk, with these direct writes and these transactions
+-- acknowledged
 abbrev pub world_in : Phase → (opening : Disk) → Journal → DeviceState → (directs : List (ℕ × List ℕ)) → (answered : List ℕ) → JournalWorld
 world_in phase opening j state directs answered = record {
   below = record {
@@ -31,9 +31,9 @@ world_in phase opening j state directs answered = record {
   past = [];
 }
 
--- Moves of the machine lead from a new journal, on a device whose disk satisfied `Fact`, to this final state. `shown` is the greatest
--- transaction that a wait or a status answered committed. Each direct write is of a block that an operation writes directly. The phase is
--- open: the journal may still run, be closed, or have ended in a failure or a refusal.
+-- Moves of the machine lead from a new journal, on a device whose disk satisfied `Fact`, to this state, in any phase: the journal runs, is
+-- closed, or ended in a failure or a refusal. `shown` is the greatest acknowledged transaction. Each direct write is of a block that an
+-- operation writes directly.
 pub record IsEnded (Fact : Shape → Disk → Type 0) (operations : List Operation) (state : DeviceState) (sealed : History) (shown : Option ℕ) : Type 0 where
   pub opening : Disk
   pub fact : Fact state.shape opening
@@ -49,7 +49,7 @@ pub record IsEnded (Fact : Shape → Disk → Type 0) (operations : List Operati
   pub greatest : shown ≡ greatest_of answered
   pub sealed_is : sealed ≡ journal.front.sealed
 
--- every crash image of the device has a clean log, and opens to all of these transactions
+-- every crash image has a clean log, and opens to all of these transactions
 pub record IsLeftClosed (state : DeviceState) (sealed : History) : Type 0 where
   pub each : (image : Image) → Leaves state.disk image → IsClosed state.shape sealed image
 

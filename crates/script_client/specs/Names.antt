@@ -13,7 +13,7 @@ pub record IsFree (names : List Slot) (name : ℕ) : Type 0 where
   pub named : name < length names
   pub free : (h : HandleValue) → stands_for names name ≡ Open h → ⊥
 
--- `slot` may be put at this name: no open handle is there, and the name exists if `slot` is an open handle
+-- no open handle is at this name, and the name exists if `slot` is an open handle
 pub record MayStand (names : List Slot) (name : ℕ) (slot : Slot) : Type 0 where
   pub free : (h : HandleValue) → stands_for names name ≡ Open h → ⊥
   pub named : (h : HandleValue) → slot ≡ Open h → name < length names

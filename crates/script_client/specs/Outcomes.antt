@@ -55,8 +55,7 @@ pub record PerformsAll {D : Type 0} (state : D → DeviceState) (honest : D → 
   pub performs : Performs state honest Last (take count operations) outcomes lines old new
   pub all : (count ≡ length operations) ⊎ EndsHere Last outcomes
 
--- the same from this start; at the end these are left: the journal's device, the sealed transactions, and the greatest that a wait or a
--- status showed committed
+-- the same from this start, with what is left: the device, the sealed transactions, and the greatest acknowledged one
 pub record PerformsTo {D : Type 0} (state : D → DeviceState) (honest : D → Type 0) (start : Table D) (operations : List Operation) (after : AfterFailure)
     (device : D) (sealed : History) (shown : Option ℕ) (lines : List ℕ) : Type 0 where
   pub last : Table D
@@ -111,8 +110,8 @@ Applies state honest Last operations old new before written applied =
 abbrev pub IsUnclosedFor : {D : Type 0} → (D → DeviceState) → JournalValue D → (device : D) → History → Fault → Type 0
 IsUnclosedFor state old device sealed fault = (e : JournalError) × (fault ≡ RefusedAll e) × IsUnclosed state old device sealed e
 
--- what is left of a journal that was closed, or whose close was refused. A close seals the running transaction if a handle had joined it; a
--- refused close may end before that
+-- what is left after a close, done or refused. A close seals the running transaction if a handle had joined it; a refused one may end
+-- before that
 pub record IsClosedAs {D : Type 0} (state : D → DeviceState) (last : ClientValue D) (device : D) (sealed : History) (shown : Option ℕ) (end : Result (Unit {0}) Fault) : Type 0 where
   pub sealed_is : MatchResult end (λ _. sealed ≡ closing last.journal.journal.front) (λ _. IsSealedInClose last.journal.journal.front sealed)
   pub shown_is : shown ≡ last.shown
@@ -123,7 +122,7 @@ abbrev pub EndsAs : {D : Type 0} → (D → DeviceState) → Ending → ClientVa
 EndsAs state Stay last device sealed shown end = IsOk end × IsLeftOf last device sealed shown
 EndsAs state Close last device sealed shown end = IsClosedAs state last device sealed shown end
 
--- what is left of applied operations; if they ended early, `end` says why, and the journal is as they left it
+-- what is left of applied operations; if they ended early, `end` says why, and nothing else was done
 abbrev pub IsAppliedAs : {D : Type 0} → (D → DeviceState) → (applied : Result (Unit {0}) Fault) → Ending → ClientValue D → (device : D) → History → (shown : Option ℕ) → Result (Unit {0}) Fault → Type 0
 IsAppliedAs state applied ending last device sealed shown end =
     MatchResult applied (λ _. EndsAs state ending last device sealed shown end) (λ fault. (end ≡ Err fault) × IsLeftOf last device sealed shown)

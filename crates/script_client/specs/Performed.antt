@@ -35,7 +35,7 @@ pub record Table (D : Type 0) : Type 0 where
   pub client : ClientValue D
   pub names : List Slot
 
--- a new journal on an opened log: its client is to perform these operations, and no name stands for anything
+-- a new journal on an opened log, a client for these operations, and names that stand for nothing
 pub record IsBegun {D : Type 0} (state : D → DeviceState) (opened : OpenedValue D) (operations : List Operation) (t : Table D) : Type 0 where
   pub client : IsNewClient state opened operations t.client
   pub names : t.names ≡ replicate 10000 Empty
@@ -66,7 +66,7 @@ pub record StartsNone {D : Type 0} (name credits : ℕ) (old new : Table D) (e :
   pub same : new.client.journal ≡ old.client.journal
   pub names : new.names ≡ set old.names name Empty
 
--- if the name is free, a handle starts or the start is refused; else the operation is skipped
+-- a free name: a handle starts or is refused; any other name: the operation is skipped
 abbrev pub HasStarted : {D : Type 0} → (D → DeviceState) → (name credits : ℕ) → Outcome → Table D → Table D → Type 0
 HasStarted state name credits outcome old new =
     (IsFree old.names name × OrRefused outcome (StartsNamed state name credits outcome old new) (StartsNone name credits old new))
@@ -78,7 +78,7 @@ WritesBlock state b bytes outcome h left old new = OrRefused outcome
     ((outcome ≡ Done) × Does state old (FrontStep (WriteBlock h.number b (block_from (state old.device).shape.block_size bytes))) new × Spends old.journal.front b h left)
     (λ e. (TouchRefused old.journal.front h b e ⊎ (e ≡ Memory)) × (new ≡ old) × (left ≡ h))
 
--- a block is read through a handle; the read is noted, and the outcome is the block's first eight bytes
+-- a block is read through a handle and the read noted; the outcome is its first eight bytes
 abbrev pub ReadsBlock : {D : Type 0} → (D → DeviceState) → (honest : D → Type 0) → ℕ → Outcome → HandleValue → (old new : JournalValue D) → Type 0
 ReadsBlock state honest b outcome h old new = OrRefused outcome
     ((v : List ℕ) × (outcome ≡ Begins (block_from 8 v)) × NotesRead state old h b v new × (honest new.device → Does state old (ReadBlock h.number b v) new))
@@ -128,7 +128,7 @@ IsTouch (Wait name) = ⊥
 IsTouch (WriteDirect b bytes) = ⊥
 IsTouch SyncDirect = ⊥
 
--- the operation goes through the handle that the name stands for; it is skipped if there is none
+-- the operation goes through the name's open handle; without one it is skipped
 pub record TouchesNamed {D : Type 0} (state : D → DeviceState) (honest : D → Type 0) (operation : Operation) (name : ℕ) (outcome : Outcome) (h : HandleValue) (old new : Table D) : Type 0 where
   pub left : HandleValue
   pub touches : Touches state honest operation outcome h left old.client.journal new.client.journal
@@ -167,7 +167,7 @@ HasStopped state name Empty outcome old new = Skips outcome old new
 HasStopped state name (Stopped ticket) outcome old new = Skips outcome old new
 HasStopped state name (Waited receipt) outcome old new = Skips outcome old new
 
--- a commit was requested. A receipt's transaction is already committed. Once the device has failed, both are refused
+-- a commit was requested; a receipt's transaction already has it. Once the device has failed, both are refused
 abbrev pub HasRequested : {D : Type 0} → (D → DeviceState) → Slot → Outcome → Table D → Table D → Type 0
 HasRequested state (Stopped ticket) outcome old new = (new.names ≡ old.names) × OrRefused outcome
     ((outcome ≡ Done) × Requests state ticket.tid old.client.journal new.client.journal)
@@ -178,7 +178,7 @@ HasRequested state (Waited receipt) outcome old new = (new.names ≡ old.names) 
 HasRequested state Empty outcome old new = Skips outcome old new
 HasRequested state (Open h) outcome old new = Skips outcome old new
 
--- the running transaction was locked if a handle had joined it, and its number is the outcome; or the device has failed
+-- the running transaction was locked if a handle had joined it, and its number answered; or the device has failed
 abbrev pub Locks : {D : Type 0} → (D → DeviceState) → Outcome → JournalValue D → JournalValue D → Type 0
 Locks state outcome old new = OrRefused outcome
     ((outcome ≡ Transaction old.journal.front.running.tid) × Requests state old.journal.front.running.tid old new)
@@ -237,8 +237,8 @@ HasStatus (Waited receipt) outcome old new = (new.names ≡ old.names) × Tells 
 HasStatus Empty outcome old new = Skips outcome old new
 HasStatus (Open h) outcome old new = Skips outcome old new
 
--- a wait for a ticket. If the transaction is committed, the name stands for its receipt. An open one is not awaited. Once the device has
--- failed, the wait for a committed one is refused
+-- a wait for a ticket: a committed transaction gives its receipt, an open one is not awaited. Once the device has failed, the wait for a
+-- committed one is refused
 abbrev pub WaitsFor : {D : Type 0} → TicketValue → Outcome → Slot → ClientValue D → ClientValue D → Type 0
 WaitsFor ticket outcome behind old new =
     ((outcome ≡ Transaction ticket.tid) × IsReceiptTaken ticket old new × (behind ≡ Waited ticket))

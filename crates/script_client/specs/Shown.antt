@@ -16,7 +16,7 @@ use Rattle.script_client.specs.declared.client.Waited.{Waited}
 use Rattle.script_client.specs.declared.client.Waited.TheVariants.{Committed, Open, Refused}
 use Rattle.script_client.specs.Told.{ClientValue, with_told}
 
--- a client of a new journal on an opened log: it is to perform these operations, and was shown nothing
+-- a client of a new journal on an opened log: it is to perform these operations, and nothing was acknowledged
 pub record IsNewClient {D : Type 0} (state : D → DeviceState) (opened : OpenedValue D) (operations : List Operation) (client : ClientValue D) : Type 0 where
   pub fresh : IsFresh (state opened.device).shape opened.superblock opened.next client.journal.journal
   pub device : client.journal.device ≡ opened.device
@@ -27,7 +27,7 @@ pub record IsNewClient {D : Type 0} (state : D → DeviceState) (opened : Opened
 abbrev pub IsSameButJournal : {D : Type 0} → ClientValue D → ClientValue D → Type 0
 IsSameButJournal old new = new ≡ record old { journal = new.journal }
 
--- what is left of a client: its journal's device, the sealed transactions, and the greatest that was shown committed
+-- what is left of a client: its journal's device, the sealed transactions, and the greatest acknowledged one
 pub record IsLeftOf {D : Type 0} (client : ClientValue D) (device : D) (sealed : History) (shown : Option ℕ) : Type 0 where
   pub device_is : device ≡ client.journal.device
   pub sealed_is : sealed ≡ client.journal.journal.front.sealed

@@ -12,7 +12,7 @@ use Rattle.journal_script.specs.declared.script.Operation.{Operation}
 use Rattle.journal_script.specs.Named.{IsDirectOf}
 use Rattle.journal_steps.specs.Values.{JournalValue}
 
--- the view of a client: its journal and device, its operations, and the greatest transaction that it was shown committed, if any
+-- the view of a client: its journal and device, its operations, and the greatest acknowledged transaction, if any
 pub record ClientValue (D : Type 0) : Type 0 where
   pub journal : JournalValue D
   pub operations : List Operation
@@ -32,8 +32,8 @@ greatest_of (tid ∷ tids) = with_told tid (greatest_of tids)
 abbrev pub AreDirectsOf : List Operation → List (ℕ × List ℕ) → Type 0
 AreDirectsOf operations directs = (b : ℕ) (v : List ℕ) → IsOneOf directs (b, v) → IsDirectOf operations b
 
--- the world of a running journal on a device whose log was opened with this disk, with these direct writes and these transactions answered
--- committed
+-- the world of a running journal on a device whose log was opened with this disk, with these direct writes and these transactions
+-- acknowledged
 abbrev pub running_world : (opening : Disk) → Journal → DeviceState → (directs : List (ℕ × List ℕ)) → (answered : List ℕ) → JournalWorld
 running_world opening j state directs answered = record {
   below = record {
@@ -47,8 +47,8 @@ running_world opening j state directs answered = record {
   past = [];
 }
 
--- Moves of the machine lead from a new journal, on a device whose disk satisfied `Fact`, to this journal. Each direct write is of a block
--- that an operation writes directly. `shown` is the greatest transaction that a wait or a status answered committed.
+-- Moves of the machine lead from a new journal, on a device whose disk satisfied `Fact`, to this one. Each direct write is of a block that
+-- an operation writes directly. `shown` is the greatest acknowledged transaction.
 pub record HasLedTo (Fact : Shape → Disk → Type 0) (operations : List Operation) (j : Journal) (state : DeviceState) (shown : Option ℕ) : Type 0 where
   pub measures : j.engine.shape ≡ state.shape
   pub opening : Disk

@@ -1,4 +1,4 @@
-//! The client of a journal: calls it, and records which transactions it was shown committed.
+//! The client of a journal: calls it, and records which transactions were acknowledged.
 ghost use Rattle.std.specs.Prelude.{◌≡◌, ◌+◌, ◌≤◌, length, IfErr, IfOk, MatchResult, OnOk};
 ghost use Rattle.journal_model.specs.declared.refusal.JournalError.TheVariants.{Memory};
 ghost use Rattle.journal_model.specs.Disk.{Disk, Shape};
@@ -21,7 +21,7 @@ use std::marker::{Brand, Model, PhantomData};
 
 /// A fact about the disk on which a run begins.
 pub trait HomeFact {
-    /// The fact, of a device's measures and of its disk as the opening of its log left it.
+    /// The fact: about a device's measures, and its disk after the opening of its log.
     ghost holds: { Shape → Disk → Type 0 };
 }
 
@@ -50,12 +50,12 @@ impl HomeFact for ZeroHome {
     ghost holds = { IsZeroHome };
 }
 
-/// A journal on a device, the operations that its client performs, and the transactions that it was shown committed.
+/// A journal, the operations that its client performs, and what was acknowledged.
 #[derive(Drop)]
 pub struct Client<'a, D: Device, H: HomeFact> {
     journal: Journal<D, Vec<Sealed>>,
     operations: &'a [Operation],
-    /// The greatest transaction that a wait or a status answered committed.
+    /// The greatest acknowledged transaction: a wait or a status answered that it is committed.
     acknowledged: Option<Tid>,
     of: PhantomData<H>,
 }
@@ -70,12 +70,12 @@ impl<'a, D: Device, H: HomeFact> Model for Client<'a, D, H> {
     ghost invariant = { λ c. D.honest c.journal.device → HasLedTo H.holds c.operations.now c.journal.journal (D.state c.journal.device) c.acknowledged };
 }
 
-/// What is left of a journal after `close`, done or refused.
+/// The rest of a journal after `close`, done or refused.
 #[derive(Drop)]
 pub struct Ended<D> {
-    /// The device, and the record of sealed transactions.
+    /// The device, and the sealed transactions.
     pub parts: Parts<D, Vec<Sealed>>,
-    /// The greatest transaction that was shown committed.
+    /// The greatest acknowledged transaction.
     pub acknowledged: Option<Tid>,
     /// Why it is not closed, if it is not.
     pub closed: Result<(), JournalError>,
@@ -97,7 +97,7 @@ impl<'a, D: Device + Drop, H: HomeFact> Client<'a, D, H> {
     ghost use Rattle.script_client.specs.Shown.{IsWaited, IsNewClient, IsNextHandle, IsLeftOf, IsRefusedAborted, IsSameButJournal, IsShown, ticket_of};
     ghost use Rattle.script_client.specs.Told.{IsLedTo, with_told};
 
-    /// Makes a client that is to perform `operations` on a new journal on an opened log.
+    /// Makes a client for `operations` over a new journal on an opened log.
     ///
     /// # Errors
     ///
@@ -332,7 +332,7 @@ impl<'a, D: Device + Drop, H: HomeFact> Client<'a, D, H> {
         self.journal.mark()
     }
 
-    /// Whether a ticket's transaction is committed. If it is, that is noted.
+    /// Whether a ticket's transaction is committed; if so, that is noted.
     pub fn status(&mut self, ticket: &Ticket) -> Status
         ensures status { StatusIs result ticket.now.tid self.old.journal.journal.front }
         ensures shown { IsShown result ticket.now.tid self.old self.new }
@@ -344,7 +344,7 @@ impl<'a, D: Device + Drop, H: HomeFact> Client<'a, D, H> {
         status
     }
 
-    /// Whether a receipt's transaction is committed: always, if this journal gave the receipt. If it is, that is noted again.
+    /// Whether a receipt's transaction is committed, as it is if this journal gave the receipt; if so, that is noted again.
     pub fn confirm(&mut self, receipt: &Receipt) -> Status
         ensures status { StatusIs result receipt.now.tid self.old.journal.journal.front }
         ensures shown { IsShown result receipt.now.tid self.old self.new }
@@ -389,7 +389,7 @@ impl<'a, D: Device + Drop, H: HomeFact> Client<'a, D, H> {
         };
     }
 
-    /// Ends the journal. Returns its device, the sealed transactions, and the greatest transaction that was shown committed.
+    /// Ends the journal. Returns its device, the sealed transactions, and the greatest acknowledged one.
     pub fn finish(self) -> (Parts<D, Vec<Sealed>>, Option<Tid>)
         ensures led { D.honest result.0.device → IsLedTo H.holds self.entry.operations (D.state result.0.device) result.0.sealed.items result.1 }
         ensures left { IsLeftOf self.entry result.0.device result.0.sealed.items result.1 }
@@ -403,8 +403,8 @@ impl<'a, D: Device + Drop, H: HomeFact> Client<'a, D, H> {
         (journal.into_parts(), acknowledged)
     }
 
-    /// Closes the journal. With an open handle the answer is `NotRunning`, and nothing was done; other refusals are those of a journal's
-    /// close. After a refusal, what was sealed and committed stays so.
+    /// Closes the journal. `NotRunning`: a handle is open, and nothing was done. Other refusals are those of a journal's close; what was
+    /// sealed and committed by then stays so.
     pub fn close(self) -> Ended<D>
         ensures ended { D.honest result.parts.device → IsEnded H.holds self.entry.operations (D.state result.parts.device) result.parts.sealed.items result.acknowledged }
         ensures closed { OnOk result.closed (D.honest result.parts.device → IsLeftClosed (D.state result.parts.device) result.parts.sealed.items) }

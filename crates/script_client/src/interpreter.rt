@@ -14,8 +14,8 @@ use journal_script::{HANDLE_NAMES, HandleName, Operation};
 use recovery::Opened;
 use std::alloc::{AllocError, Global};
 
-/// More turns than a commit can take. Each turn is a seal or one device call, and there are few more device calls than ring blocks. A log
-/// has fewer than 1,048,576 of these.
+/// More turns than a commit can take: a turn is a seal or one device call, and there are few more of these than ring blocks, of which a log
+/// has fewer than 1,048,576.
 const MOST_TURNS: u32 = 2_000_000;
 
 /// A client, and what the names of its script stand for.
@@ -25,7 +25,6 @@ pub struct Interpreter<'a, D: Device, H: HomeFact> {
     slots: Slots,
 }
 
-/// Copies as many bytes as both have to the front of `to`.
 fn copy_front(to: &mut [u8], from: &[u8])
     ensures { to.new ≡ take (min (length to.old) (length from.now)) from.now ++ drop (min (length to.old) (length from.now)) to.old }
 {
@@ -33,7 +32,6 @@ fn copy_front(to: &mut [u8], from: &[u8])
     to[..n].copy_from_slice(&from[..n]);
 }
 
-/// The first bytes, filled up with zeros.
 fn front_of(bytes: &[u8]) -> [u8; PRINTED_BYTES]
     ensures { result ≡ block_from 8 bytes.now }
 {
@@ -42,7 +40,6 @@ fn front_of(bytes: &[u8]) -> [u8; PRINTED_BYTES]
     begins
 }
 
-/// A block of `size` bytes: the given ones, cut at `size`, then zeros.
 fn block_of(alloc: Global, size: usize, bytes: &[u8]) -> Result<Vec<u8>, AllocError>
     ensures { IfOk result (λ block. block.items ≡ block_from size bytes.now) }
 {
@@ -91,7 +88,7 @@ impl<'a, D: Device + Drop, H: HomeFact> Interpreter<'a, D, H> {
     ghost use Rattle.script_client.specs.Shown.{IsLeftOf, IsSameButJournal};
     ghost use Rattle.script_client.specs.Told.{IsLedTo};
 
-    /// Makes an interpreter that is to run `operations` on an opened log.
+    /// Makes an interpreter for `operations` over a new journal on an opened log.
     ///
     /// # Errors
     ///
@@ -154,8 +151,7 @@ impl<'a, D: Device + Drop, H: HomeFact> Interpreter<'a, D, H> {
         self.client.is_aborted()
     }
 
-    /// Stops the open handles and ends the journal. Returns its device, the sealed transactions, and the greatest transaction that was
-    /// shown committed.
+    /// Stops the open handles and ends the journal. Returns its device, the sealed transactions, and the greatest acknowledged one.
     pub fn finish(self) -> (Parts<D, Vec<Sealed>>, Option<Tid>)
         ensures led { D.honest result.0.device → IsLedTo H.holds self.entry.client.operations (D.state result.0.device) result.0.sealed.items result.1 }
         ensures left { IsLeftOf self.entry.client result.0.device result.0.sealed.items result.1 }
@@ -176,7 +172,6 @@ impl<'a, D: Device + Drop, H: HomeFact> Interpreter<'a, D, H> {
         self.into_stopped().close()
     }
 
-    /// The client, after the open handles are stopped.
     fn into_stopped(self) -> Client<'a, D, H>
         ensures operations { result.operations ≡ self.entry.client.operations }
         ensures left { IsLeftOf self.entry.client result.journal.device result.journal.journal.front.sealed result.shown }
@@ -201,7 +196,7 @@ impl<'a, D: Device + Drop, H: HomeFact> Interpreter<'a, D, H> {
         client
     }
 
-    /// Starts a handle, if its name stands for no open one. After a refused start the name stands for nothing.
+    /// Starts a handle, if its name stands for no open one. After a refusal the name stands for nothing.
     fn start(&mut self, name: HandleName, credits: u64) -> Outcome
         ensures rest { IsSameButJournal self.old.client self.new.client }
         ensures done { HasStarted D.state name credits result (record { client = self.old.client; names = self.old.slots }) (record { client = self.new.client; names = self.new.slots }) }
@@ -255,7 +250,6 @@ impl<'a, D: Device + Drop, H: HomeFact> Interpreter<'a, D, H> {
         }
     }
 
-    /// Writes a block through a handle: these bytes, then zeros.
     fn write(&mut self, handle: &mut Handle, block: BlockNo, bytes: &[u8]) -> Outcome
         ensures rest { IsSameButJournal self.old.client self.new.client }
         ensures done { WritesBlock D.state block bytes.now result handle.old handle.new self.old.client.journal self.new.client.journal }
@@ -282,7 +276,7 @@ impl<'a, D: Device + Drop, H: HomeFact> Interpreter<'a, D, H> {
         }
     }
 
-    /// Stops a handle and starts one in its place. After a refusal the name stands for the stopped handle's ticket.
+    /// Restarts a handle. After a refusal the name stands for the stopped handle's ticket.
     fn restart(&mut self, name: HandleName, credits: u64) -> Outcome
         ensures rest { IsSameButJournal self.old.client self.new.client }
         ensures done { HasRestarted D.state name credits (stands_for self.old.slots name) result (record { client = self.old.client; names = self.old.slots }) (record { client = self.new.client; names = self.new.slots }) }
@@ -324,7 +318,7 @@ impl<'a, D: Device + Drop, H: HomeFact> Interpreter<'a, D, H> {
         }
     }
 
-    /// Requests a commit. A receipt's transaction is already committed, so the journal need not be asked.
+    /// Requests a commit; for a receipt, whose transaction is committed, the journal need not be asked.
     fn request(&mut self, name: HandleName) -> Outcome
         ensures rest { IsSameButJournal self.old.client self.new.client }
         ensures done { HasRequested D.state (stands_for self.old.slots name) result (record { client = self.old.client; names = self.old.slots }) (record { client = self.new.client; names = self.new.slots }) }
@@ -410,7 +404,7 @@ impl<'a, D: Device + Drop, H: HomeFact> Interpreter<'a, D, H> {
         Outcome::Transaction(self.client.mark())
     }
 
-    /// The status of a name's transaction. If it is committed, that is noted.
+    /// The status of a name's transaction; a committed one is noted.
     fn status(&mut self, name: HandleName) -> Outcome
         ensures done { HasStatus (stands_for self.old.slots name) result (record { client = self.old.client; names = self.old.slots }) (record { client = self.new.client; names = self.new.slots }) }
         ensures operations { self.new.client.operations ≡ self.old.client.operations }
@@ -445,7 +439,7 @@ impl<'a, D: Device + Drop, H: HomeFact> Interpreter<'a, D, H> {
         }
     }
 
-    /// Answers a wait by a receipt: its transaction, noted again, or `Aborted` as for every ticket of an aborted journal.
+    /// The answer to a wait by a receipt: its transaction, noted again, or `Aborted` as for every ticket of an aborted journal.
     fn wait_again(&mut self, receipt: &Receipt) -> Outcome
         ensures done { TellsAgain receipt.now.tid result self.old.client self.new.client }
         ensures slots { self.new.slots ≡ self.old.slots }
@@ -459,7 +453,7 @@ impl<'a, D: Device + Drop, H: HomeFact> Interpreter<'a, D, H> {
         }
     }
 
-    /// Takes the receipt for a ticket, if its transaction is committed. Also returns what the name stands for now.
+    /// Takes the receipt for a ticket, if its transaction is committed. Returns also the name's new slot.
     fn wait_for(&mut self, ticket: Ticket) -> (Outcome, Slot)
         ensures done { WaitsFor ticket result.0 result.1 self.old.client self.new.client }
         ensures slots { self.new.slots ≡ self.old.slots }

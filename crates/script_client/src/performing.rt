@@ -48,7 +48,7 @@ pub struct Performed<D> {
     pub device: D,
     /// The sealed transactions, in order.
     pub sealed: Vec<Sealed>,
-    /// The greatest transaction that was shown committed.
+    /// The greatest acknowledged transaction.
     pub acknowledged: Option<Tid>,
 }
 
@@ -71,7 +71,7 @@ pub struct Applied<D> {
 }
 
 /// Performs operations on a new journal on an opened log, whose disk satisfies `H`, and prints a line for each. Stops the open handles at
-/// the end; the journal is not closed.
+/// the end, and does not close the journal.
 ///
 /// # Errors
 ///
@@ -123,9 +123,8 @@ fn perform_by<D: Device + Drop, H: HomeFact, W: Write>(
 /// refusal it ends; it always ends if the device failed. Then it stops the open handles and, if all was performed and `ending` is `Close`,
 /// closes the journal.
 ///
-/// `Applied` has what is left, and how it ended: `Fault::Output` if a line could not be written, else the refusal of the last operation or
-/// of the close. After such an end, or with `Stay`, the journal is not closed: what was committed is in the log or at home, and nothing is
-/// of a transaction that was not.
+/// `Applied` has what is left, and why it ended early: `Fault::Output` if a line could not be written, else the refusal of the last
+/// operation or of the close. Then, and with `Stay`, the journal is not closed: what was committed is in the log or at home.
 ///
 /// # Errors
 ///
@@ -185,11 +184,8 @@ fn apply_known<D: Device + Drop, H: HomeFact, W: Write>(
     }
 }
 
-/// Performs operations up to the one that ends the list, and prints a line for each.
-///
-/// # Errors
-///
-/// `Fault::Refused`: the refusal that ended the list. `Fault::Output`: a line can't be written.
+/// Performs operations up to the one that ends the list, and prints a line for each. `Fault::Refused`: the refusal that ended the list.
+/// `Fault::Output`: a line can't be written.
 fn apply_all<D: Device + Drop, H: HomeFact, W: Write>(
     interpreter: &mut Interpreter<'_, D, H>,
     operations: &[Operation],
@@ -221,7 +217,6 @@ fn write_line<W: Write>(operation: &Operation, outcome: &Outcome, out: &mut W) -
     writeln!(out, "{operation} = {outcome}")
 }
 
-/// The refusal that ends the list at this outcome, if any.
 fn last_refusal(outcome: Outcome, after: AfterRefusal) -> Option<JournalError>
     ensures some { IfSome result (λ e. (outcome ≡ Refused e) × EndsApply after e) }
     ensures none { IfNone result (IsLastApplied after outcome → ⊥) }
@@ -232,7 +227,7 @@ fn last_refusal(outcome: Outcome, after: AfterRefusal) -> Option<JournalError>
     }
 }
 
-/// Ends the journal without a close if operations failed, else as `ending` says.
+/// Ends the journal: without a close if operations failed, else as `ending` says.
 fn end_of<D: Device + Drop, H: HomeFact>(
     interpreter: Interpreter<'_, D, H>,
     applied: Result<(), Fault>,

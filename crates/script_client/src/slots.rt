@@ -36,7 +36,7 @@ impl Model for Slots {
 impl Slots {
     ghost use Rattle.script_client.specs.Names.{IsFree, MayStand, stands_for};
 
-    /// Slots of names that stand for nothing. `room` must be empty, with room for every name.
+    /// Slots of names that stand for nothing. `room` must be empty, with room for all.
     pub fn of(room: Vec<Slot>) -> Self
         requires empty { room.items ≡ [] }
         requires capacity { vec_capacity room ≡ 10_000 }
@@ -49,7 +49,7 @@ impl Slots {
         Slots { slots }
     }
 
-    /// Whether a name may get an open handle: the name exists, and stands for no open handle.
+    /// Whether a name exists and stands for no open handle.
     pub fn is_free(&self, name: HandleName) -> bool
         ensures { IsTrue result ↔ IsFree self.now name }
     {

@@ -20,7 +20,7 @@ or_false : (b : Bool) → b ≡ (b || false)
 or_false true = refl
 or_false false = refl
 
--- the transactions up to the one that was shown committed are owed
+-- the transactions up to the greatest acknowledged one are owed
 pub count_up_to-owed : (n : ℕ) (ts : History) → count_by (λ t. nat_le t.tid n) ts ≡ owed (Some n) ts
 count_up_to-owed n ts = λ i. count_by (λ t. or_false (nat_le t.tid n) i) ts
 

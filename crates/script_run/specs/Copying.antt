@@ -17,7 +17,7 @@ pub record IsCopy (image : MemState) (to : DeviceState) : Type 0 where
   pub shape_is : to.shape ≡ image.shape
   pub each : (a : Area) (n : ℕ) → n < blocks_in image.shape a → to.disk a n ≡ record { reads = ((state_of image).disk a n).reads; others = [] }
 
--- the image was only read: neither its shape nor its changing calls nor its failures changed, so its contents and its crash images did not
+-- the image was only read: its contents and its crash images are unchanged
 abbrev pub IsOnlyRead : MemState → MemState → Type 0
 IsOnlyRead old new = (new.shape ≡ old.shape) × (new.calls ≡ old.calls) × (new.faults ≡ old.faults)
 
@@ -26,13 +26,13 @@ pub record HasCopied (area : Area) (k : ℕ) (image old new : Disk) : Type 0 whe
   pub copied : (n : ℕ) → n < k → (new area n).reads ≡ (image area n).reads
   pub others : (a : Area) (n : ℕ) → same_area area a ≡ false → new a n ≡ old a n
 
--- device calls were made up to the first that failed, if any, and the result says which; the shape is unchanged
+-- device calls were made up to the first that failed, if any; the result says whether one did, and the shape is unchanged
 pub record CallsUntilFailure {A T E : Type 0} (state : A → DeviceState) (Honest : A → Type 0) (result : Result T E) (old new : A) : Type 0 where
   pub shape : (state new).shape ≡ (state old).shape
   pub faults : CountsFaults result (state old) (state new)
   pub honest : Honest new → Honest old
 
--- why an image is not copied: the shapes differ and the device was not touched, or the device failed, or memory ran out
+-- why an image is not copied: the shapes differ and the device was not touched, the device failed, or memory ran out
 abbrev pub CopyRefused : MemState → DeviceState → DeviceState → JournalError → Type 0
 CopyRefused image old new e = ((e ≡ Device) × (old.shape ≢ image.shape) × Stays old new) ⊎ IsFailure old new e
 

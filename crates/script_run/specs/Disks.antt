@@ -29,7 +29,7 @@ pub record IsEmptyLog (m : Measures) (state : DeviceState) : Type 0 where
 abbrev pub disk_behind : FailOnce (StopAt MemState) → MemState
 disk_behind device = device.device.device
 
--- the device of a run over a disk: it stops at write `stop`, and its call `fail` fails, if they are named; both counts start at 0
+-- the device of a run over a disk: it stops at write `stop` and fails call `fail`, if named; both counts start at 0
 abbrev pub run_device_over : MemState → (stop fail : Option ℕ) → FailOnce (StopAt MemState)
 run_device_over disk stop fail = record {
   device = record { device = disk; left = unwrap_or stop 0; stopped = false; faults = 0; calls = 0 };
@@ -43,7 +43,7 @@ abbrev pub run_state : FailOnce (StopAt MemState) → DeviceState
 run_state device = failing (stopping state_of) device
 
 -- An empty log of these measures was opened, by a whole run of the machine. Over its disk stands a device that stops at write `stop` and
--- whose call `fail` fails, if they are named; both are counted from the end of the opening.
+-- fails call `fail`, if named, both counted from the end of the opening.
 pub record IsOpenedAnew (m : Measures) (stop fail : Option ℕ) (opened : OpenedValue (FailOnce (StopAt MemState))) : Type 0 where
   pub formatted : MemState
   pub empty : IsEmptyLog m (state_of formatted)

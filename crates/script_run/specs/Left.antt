@@ -1,4 +1,4 @@
--- What a run of a script did, what it left, and the verdict on it, also if an opening of the image is stopped.
+-- What a run of a script did and left, and the verdict on it, also with a stopped opening.
 use Rattle.std.specs.Prelude.{◌≡◌, ◌⊎◌, ⊤, ℕ, ◌<◌, Bool, List, [], Option, Some, None}
 use Rattle.journal_model.specs.declared.number.Area.{Area}
 use Rattle.journal_model.specs.Disk.{reading}
@@ -35,8 +35,8 @@ pub record IsCrashOf (device : MemState) (keep : List ℕ) (image : MemState) : 
   pub each : (a : Area) (n : ℕ) → (state_of image).disk a n ≡ record { reads = crashed keep device a n; others = [] }
   pub shape_is : image.shape ≡ device.shape
 
--- A device that was to stop at write `k` stopped there, and `k` is its last write; or it made fewer writes, and stopped at the end. With no
--- such write it stopped at the end.
+-- A device that was to stop at write `k` stopped there, with `k` its last write, or made fewer writes, or `k` is 0. With no write named it
+-- stopped at the end.
 abbrev pub IsStoppedAtWrite : Option ℕ → Option ℕ → (writes : ℕ) → Type 0
 IsStoppedAtWrite None None writes = ⊤
 IsStoppedAtWrite None (Some at) writes = ⊥
@@ -58,17 +58,17 @@ pub record HasRun (opened : OpenedValue (FailOnce (StopAt MemState))) (operation
   pub performs : HasPerformed run_state (λ d. Unit {0}) opened operations after over sealed shown lines
   pub behind : device ≡ disk_behind over
 
--- the same for a script on an empty log of its measures, with a home of zeros; the device stops at write `stop` and call `fail` fails, if
--- they are named
+-- the same for a script on an empty log of its measures, with a home of zeros; the device stops at write `stop` and fails call `fail`, if
+-- named
 pub record HasRunAnew (script : Script) (stop fail : Option ℕ) (device : MemState) (sealed : History) (shown : Option ℕ) (lines : List ℕ) : Type 0 where
   pub opened : OpenedValue (FailOnce (StopAt MemState))
   pub anew : IsOpenedAnew script.measures stop fail opened
   pub zero : IsZeroHome (run_state opened.device).shape (run_state opened.device).disk
   pub run : HasRun opened script.operations.items (after_call fail) device sealed shown lines
 
--- The end of a script's run. Moves of the machine lead from an empty log, on a home of zeros, to a device, to the sealed transactions, and
--- to the greatest one that was answered committed. Each operation up to the script's end was performed, and has a line. The device stopped
--- at the named write or at the end. `image` is a crash image of it, and `named` are the blocks that the script names.
+-- The end of a script's run. Moves of the machine lead from an empty log, on a home of zeros, to a device, the sealed transactions, and the
+-- greatest acknowledged one. Each operation up to the script's end has a line. The device stopped at the named write or at the end. `image`
+-- is a crash image of it, and `named` has the blocks that the script names.
 pub record IsEndOf (script : Script) (stop : Stop) (failing_call : Option ℕ) (image : MemState) (sealed : History) (shown : Option ℕ) (named : NamedBlocks) : Type 0 where
   pub device : MemState
   pub led : IsLedTo IsZeroHome script.operations.items (state_of device) sealed shown

@@ -4,7 +4,7 @@ use Rattle.journal_model.specs.Transaction.{History, Transaction}
 use Rattle.log_model.specs.Opening.{greatest_number}
 use Rattle.log_model.specs.Superblock.{greatest_length}
 
--- these transactions, and as many more as the longest log has blocks, stay below the greatest number
+-- these transactions leave as many numbers as the longest log has blocks
 pub record HasNumbersLeft (ts : History) : Type 0 where
   pub first : Transaction
   pub is_first : slice_get ts 0 ≡ Some first

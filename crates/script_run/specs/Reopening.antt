@@ -23,8 +23,8 @@ FollowsOn false limit true ends_at = ends_at ≡ limit + 1
 FollowsOn true limit true ends_at = ends_at ≡ limit
 FollowsOn true limit false ends_at = ⊥
 
--- A device whose opening of this image was stopped: some of the opening's calls were made, so the disk is at one of the opening's moments.
--- Its last write has number `k`.
+-- A device whose opening of this image was stopped after some of the opening's calls, at one of the opening's moments. Its last write has
+-- number `k`.
 pub record IsStoppedAt (image : DeviceState) (k : ℕ) (device : MemState) : Type 0 where
   pub shape_is : device.shape ≡ image.shape
   pub moment : IsMoment image.shape image.disk (state_of device).disk
@@ -51,8 +51,8 @@ abbrev pub IsStoppedAttempt : MemState → ℕ → Attempt → Type 0
 IsStoppedAttempt device k (Whole opened) = ⊥
 IsStoppedAttempt device k (Stopped same) = (same ≡ device) × (writes_of device.calls ≡ k)
 
--- The verdict on the crash image of a stopped opening, which was opened; `limit` is where the first image's transactions end. The verdict
--- is ok exactly if the second opening found what such a stop can leave, and home is right for the transactions below `limit`.
+-- The verdict on the opened crash image of a stopped opening; `limit` is where the first image's transactions end. It is ok exactly if the
+-- second opening found what such a stop can leave, and home is right for the transactions below `limit`.
 pub record IsSecondVerdict (shape : Shape) (left : Image) (was_clean : Bool) (limit : ℕ) (sealed : History) (shown : Option ℕ) (named : NamedBlocks) (right : Bool) : Type 0 where
   pub clean : Bool
   pub ends_at : ℕ

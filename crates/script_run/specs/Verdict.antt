@@ -10,13 +10,13 @@ use Rattle.journal_model.specs.Transaction.{History, Volume, last_effect}
 use Rattle.block_device.specs.Memory.{MemState, crashed}
 use Rattle.journal_script.specs.declared.script.NamedBlocks.{NamedBlocks}
 
--- how many transactions are owed: those up to the greatest that was shown committed, if any
+-- how many transactions are owed: those up to the greatest acknowledged one, if any
 abbrev pub owed : Option ℕ → History → ℕ
 owed None ts = 0
 owed (Some tid) ts = acknowledged (tid ∷ []) ts
 
--- the bytes that a block may have, by its last entry: a copy's bytes; without an entry zeros, unless a direct write names the block; after
--- a revoke anything, since home may hold an older copy or a direct write
+-- the bytes that a block may have, by its last entry: a copy's; without an entry zeros, unless a direct write names the block; after a
+-- revoke any, since home may hold an older copy or a direct write
 abbrev pub IsLeftBy : Option Entry → (direct : Type 0) → ℕ → List ℕ → Type 0
 IsLeftBy None direct size bytes = direct ⊎ (bytes ≡ replicate size 0)
 IsLeftBy (Some (Copy v)) direct size bytes = bytes ≡ v
@@ -31,7 +31,7 @@ abbrev pub IsAsLeft : History → (directs : List ℕ) → ℕ → ℕ → Volum
 IsAsLeft sealed directs n size home block = IsLeft (λ b. last_effect b (take n sealed)) directs size home block
 
 -- an opening that found the first `n` transactions is right: nothing acknowledged is lost, nothing unsealed is there, and each named block
--- is as these transactions left it
+-- is as they left it
 pub record IsRight (sealed : History) (shown : Option ℕ) (named : NamedBlocks) (n size : ℕ) (home : Volume) : Type 0 where
   pub kept : owed shown sealed ≤ n
   pub known : n ≤ length sealed

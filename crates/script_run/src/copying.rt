@@ -16,13 +16,13 @@ use script_client::Fault;
 use std::alloc::Global;
 use std::io::Write;
 
-/// Runs a script as `run` does, and copies the crash image to a device of the script's measures, durably, before it is opened. The verdict
-/// is on what that device has.
+/// Runs a script as `run` does, and copies the crash image to a device of the script's measures, durably, before it is opened. So the
+/// verdict is on what that device has.
 ///
 /// # Errors
 ///
-/// Those of `run`. `Fault::Refused` with `Device`: `to` has another shape, or fails; then only the operations' lines were written. If the
-/// run comes to no end, `to` is unchanged.
+/// Those of `run`. `Fault::Refused` with `Device`: `to` has another shape, or fails; then only the operations' lines were written. Without
+/// an end of the run, `to` is unchanged.
 pub fn run_copied<D: Device>(
     alloc: Global,
     script: &Script,
@@ -60,8 +60,8 @@ pub fn judge_copied<D: Device>(
     judge_left(alloc, left, opening, named, out)
 }
 
-/// Writes each block of an image to a device of the same shape, by number, the log first, and flushes both areas. The image is only read.
-/// Takes memory for one block.
+/// Writes each block of an image to a device of the same shape, by number, the log first, and flushes both areas. Takes memory for one
+/// block.
 ///
 /// # Errors
 ///
@@ -94,7 +94,6 @@ fn are_alike<D: Device>(image: &MemDevice, to: &D) -> bool
         && to.blocks(Area::Home) == image.blocks(Area::Home)
 }
 
-/// Copies both areas through a buffer of one block, and flushes them.
 fn copy_areas<D: Device>(
     image: &mut MemDevice,
     to: &mut D,

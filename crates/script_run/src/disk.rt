@@ -36,7 +36,7 @@ pub fn empty_disk(alloc: Global, measures: &Measures) -> Result<MemDevice, Journ
     Ok(device.crash(&[]))
 }
 
-/// A device over a disk that stops at write `stop`, and whose call `fail` fails, if they are given. Both are counted from now on.
+/// A device over a disk that stops at write `stop` and fails call `fail`, if given, both counted from now on.
 pub fn run_device(disk: MemDevice, stop: Option<u64>, fail: Option<u64>) -> RunDevice
     ensures { result ≡ run_device_over disk stop fail }
 {
@@ -46,8 +46,8 @@ pub fn run_device(disk: MemDevice, stop: Option<u64>, fail: Option<u64>) -> RunD
     )
 }
 
-/// Opens an empty log of these measures, over a device that stops at write `stop`, and whose call `fail` fails, if they are given. Both are
-/// counted from 1 after the opening, which makes no write.
+/// Opens an empty log of these measures, over a device that stops at write `stop` and fails call `fail`, if given. Both are counted from 1
+/// after the opening, which makes no write.
 ///
 /// # Errors
 ///

@@ -7,7 +7,7 @@ use journal_model::{Op, Sealed, Step};
 use std::alloc::{AllocError, Global};
 use std::collections::BTreeMap;
 
-/// Each block's last operation that left an entry, in the first `n` transactions or in all if there are fewer. Fails if memory runs out.
+/// Each block's last operation that left an entry, in the first `n` transactions at most. Fails if memory runs out.
 pub(crate) fn last_entries<'a>(
     alloc: Global,
     history: &'a [Sealed],

@@ -43,7 +43,6 @@ pub(crate) fn report_of<D: Device>(alloc: Global, device: &mut D) -> Result<Repo
     })
 }
 
-/// Reads and checks the superblock.
 fn read_log<D: Device>(alloc: Global, device: &mut D) -> Result<Log, JournalError>
     ensures accepted { IfOk result (λ log. IsAccepted (D.state device.old).shape.block_size (D.state device.old).shape.log_blocks log) }
     ensures read { IfOk result (λ log. D.honest device.new → IsReadLog (D.state device.old).shape (reading (D.state device.old).disk) log) }

@@ -31,7 +31,7 @@ pub struct OpenedImage {
     pub next: Tid,
 }
 
-/// Opens an image, and prints what the opening found, how the named home blocks begin, and the verdict.
+/// Opens an image, and does as `judge_opened`.
 pub(crate) fn judge_image(
     alloc: Global,
     image: MemDevice,

@@ -32,9 +32,8 @@ pub enum Attempt {
     Stopped(MemDevice),
 }
 
-/// Opens an image over a device that stops at write `k` of the opening, counted from 1, and keeps of its unflushed writes those of `keep`.
-/// Opens that again, and prints the stop, what the second opening found, how the named home blocks begin, and the verdict. If the opening
-/// makes fewer writes, prints as for an image that is opened once.
+/// Opens an image over a device that stops at write `k` of the opening, counted from 1, and keeps the unflushed writes of `keep`. Opens
+/// that again, prints the stop, and does as `judge_reopened`; if the opening makes fewer writes, as `judge_opened`.
 pub(crate) fn judge_stopped_opening(
     alloc: Global,
     image: MemDevice,
@@ -75,7 +74,6 @@ pub fn open_to(alloc: Global, image: MemDevice, k: u64) -> Result<Attempt, Journ
     }
 }
 
-/// A whole opening, which made fewer than `k` writes.
 fn whole(device: MemDevice, report: Report, next: Tid, k: u64) -> Result<Attempt, JournalError>
     ensures whole { IfOk result (IsWholeAttempt (record { device = device; report = report; next = next }) k) }
     ensures other { IfErr result (λ e. e ≡ Device) }
@@ -104,8 +102,6 @@ fn stopped(device: MemDevice, k: u64, e: JournalError) -> Result<Attempt, Journa
     }
 }
 
-/// Opens the crash image of a stopped opening, and prints what the second opening found, how the named home blocks begin, and the verdict.
-/// `first` is what the first image's log held.
 fn judge_second(
     alloc: Global,
     left: MemDevice,
@@ -148,8 +144,7 @@ pub fn judge_reopened(
     Ok(verdict)
 }
 
-/// Whether a second opening found what a stop within the first can leave: the same end and the same state, or a clean log whose next number
-/// is one more.
+/// Whether a second opening found what a stop within the first can leave: the same end and state, or a clean log with the next number.
 fn follows_on(first: Report, second: Report) -> bool
     ensures { IsTrue result ↔ FollowsOn first.clean first.ends_at second.clean second.ends_at }
 {

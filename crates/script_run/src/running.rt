@@ -48,7 +48,7 @@ pub struct Left {
 }
 
 impl Stopped {
-    /// Crashes the device: each block has the greatest unflushed write that `keep` names, else what was flushed last.
+    /// Crashes the device: each block has its greatest unflushed write that `keep` names, else what was flushed last.
     pub fn crash(self, keep: &[u64]) -> Left
         ensures image { (a : Area) (n : ℕ) → (state_of result.image).disk a n ≡ record { reads = crashed keep.now self.device a n; others = [] } }
         ensures numbers { writes_of result.image.calls ≡ 0 }
@@ -70,8 +70,8 @@ impl Stopped {
 }
 
 /// Runs a script over a device in memory. Prints a line for each operation, the dump of the crash image, and the verdict on its openings,
-/// which is also the answer. Writes and calls of the run are numbered from 1 after the format and the opening; writes of the later opening
-/// from 1 again. If a call is to fail, the script goes on after it; else it ends at the first operation that the device refuses.
+/// which is the answer. Writes and calls are numbered from 1 after the format and the opening; writes of the later opening from 1 again.
+/// After a call that is to fail the script goes on; else it ends at the first operation that the device refuses.
 ///
 /// # Errors
 ///
@@ -123,8 +123,8 @@ pub(crate) fn end_of_run(
     })
 }
 
-/// Runs a script's operations over a device in memory that stops at write `stop`, or at the end, and prints a line for each. If call
-/// `failing_call` fails, the operations after it are performed too.
+/// Runs a script's operations over a device in memory that stops at write `stop`, or at the end, and prints a line for each. After a
+/// failure of call `failing_call` the operations go on.
 ///
 /// # Errors
 ///
@@ -156,7 +156,7 @@ fn after_failing(failing_call: Option<u64>) -> AfterFailure
 }
 
 /// Runs operations on an opened log in memory, whose disk satisfies `H`, and prints a line for each. `stop` is the write at which the
-/// device stops, if it is to stop before the end.
+/// device stops, if any.
 ///
 /// # Errors
 ///
@@ -202,7 +202,6 @@ fn stopped_of<H: HomeFact>(performed: Performed<RunDevice>, stop: Option<u64>) -
     }
 }
 
-/// Whether a device stopped at `stop`, or made fewer writes.
 fn is_stopped_by(stop: Option<u64>, stopped: &Stopped) -> bool
     ensures { IsTrue result ↔ IsStoppedBy stop stopped.now }
 {
@@ -213,7 +212,7 @@ fn is_stopped_by(stop: Option<u64>, stopped: &Stopped) -> bool
     }
 }
 
-/// Crashes the device with the unflushed writes of `keep`, dumps the image, opens it, and prints how the named home blocks begin and the
+/// Crashes the device with the unflushed writes of `keep`, dumps and opens the image, and prints how the named home blocks begin and the
 /// verdict, which is the answer.
 ///
 /// # Errors
@@ -236,7 +235,7 @@ pub fn judge(
     judge_left(alloc, stopped.crash(keep), none, named, out)
 }
 
-/// Dumps a crash image and opens it. If `opening` names a write and the opening makes it, the device stops there, and what that leaves is
+/// Dumps a crash image and opens it; if the opening makes the write that `opening` names, the device stops there, and what that leaves is
 /// opened again. Prints how the named home blocks begin after the last opening, and the verdict, which is the answer.
 ///
 /// # Errors

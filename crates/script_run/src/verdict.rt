@@ -25,7 +25,7 @@ use std::collections::BTreeMap;
 pub struct Record {
     /// The sealed transactions, in order.
     pub sealed: Vec<Sealed>,
-    /// The greatest transaction that the run was shown committed.
+    /// The greatest transaction that was acknowledged.
     pub acknowledged: Option<Tid>,
 }
 
@@ -49,7 +49,7 @@ impl Record {
             .count()
     }
 
-    /// How many recorded transactions must be there: those up to the greatest that was shown committed.
+    /// How many recorded transactions must be there: those up to the greatest acknowledged one.
     fn count_acknowledged(&self) -> usize
         ensures { result ≡ owed self.now.acknowledged self.now.sealed.items }
     {
@@ -59,8 +59,8 @@ impl Record {
         }
     }
 
-    /// Whether the recorded transactions, and as many more as the longest log has blocks, stay below the greatest number. False if nothing
-    /// was recorded.
+    /// Whether the recorded transactions, and as many more as the longest log has blocks, stay below the greatest number; false without
+    /// any.
     pub fn has_numbers_left(&self) -> bool
         ensures { IsTrue result ↔ HasNumbersLeft self.now.sealed.items }
     {
@@ -71,8 +71,8 @@ impl Record {
     }
 
     /// Whether an opening that found the first `n` recorded transactions is right: nothing acknowledged is lost, nothing unsealed is there,
-    /// and each named block is as those `n` left it. A block without an entry must be zeros, unless a direct write names it; a block that
-    /// they revoked last may hold anything.
+    /// and each named block is as those `n` left it. Without an entry a block must be zeros, unless a direct write names it; after a revoke
+    /// it may hold anything.
     ///
     /// # Errors
     ///
@@ -108,7 +108,6 @@ impl Record {
     }
 }
 
-/// Whether each named home block is as these last operations left it.
 fn are_left<D: Device>(
     alloc: Global,
     device: &mut D,
@@ -150,7 +149,6 @@ fn are_bytes_left(last: &BTreeMap<u64, &Op>, named: &NamedBlocks, block: u64, by
     }
 }
 
-/// Whether a block may have these bytes after this last operation.
 fn are_left_by(op: &Op, named: &NamedBlocks, block: u64, bytes: &[u8]) -> bool
     ensures { IsTrue result ↔ IsLeftBy (entry_of op.now) (Contains (keys named.now.directs) block) (length bytes.now) bytes.now }
 {
@@ -174,7 +172,7 @@ fn are_zeros(bytes: &[u8]) -> bool
     bytes.iter().all(|byte| *byte == 0)
 }
 
-/// Whether `count` transactions from `first` on, and as many more as the longest log has blocks, stay below the greatest number.
+/// Whether `count` transactions from `first` on leave as many numbers as the longest log has blocks.
 fn are_left_behind(first: Tid, count: usize) -> bool
     ensures { IsTrue result ↔ (first + count + greatest_length + 1 < greatest_number) }
 {

@@ -1,7 +1,7 @@
 -- What a device may keep of its last writes.
 use Rattle.std.specs.Prelude.{ℕ, zero, suc, ◌+◌, ◌-◌, ◌/◌, ◌%◌, ◌^◌, ◌==◌, List, [], ◌∷◌, ◌++◌, if◌then◌else◌, max, min}
 
--- how many choices there are among the last four writes up to write `k`, or among all if there are fewer
+-- how many choices there are among the last four writes up to write `k`, or among all
 abbrev pub choices_of : ℕ → ℕ
 choices_of k = 2 ^ min k 4
 

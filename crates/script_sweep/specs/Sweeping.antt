@@ -35,8 +35,8 @@ counted false n = record n { wrong = one_more n.wrong }
 abbrev pub with_refusal : NotRight → NotRight
 with_refusal n = record n { refused = one_more n.refused }
 
--- A counted refusal is one of the image's contents: memory and the device did not fail, and the run had numbers left. (On any other refusal
--- the sweep ends.)
+-- A counted refusal is of the image's contents: memory and the device did not fail, and the run had numbers left. (Any other ends the
+-- sweep.)
 pub record CountsRefusal (stopped : Stopped) (e : JournalError) (old new : NotRight) : Type 0 where
   pub device : e ≢ Device
   pub memory : e ≢ Memory
@@ -98,7 +98,7 @@ pub data IsJudgedAgain (keeps : Type 0) (stopped : Stopped) (named : NamedBlocks
   IsRefusedAgain : (e : JournalError) (new : NotRight) → (keeps → IsUnopened image.shape (reading (state_of image).disk) e) → CountsRefusal stopped e old new →
       IsJudgedAgain keeps stopped named first image old new
 
--- the crash image of a device that stopped at write `j` of an opening, by this choice of its last writes, was opened and judged
+-- the crash image of an opening that stopped at write `j`, by this choice of its last writes, was opened and judged
 pub record SweepsAgain (keeps : Type 0) (stopped : Stopped) (named : NamedBlocks) (first : Report) (j : ℕ) (device : MemState) (choice : ℕ) (old new : Counts) : Type 0 where
   pub image : MemState
   pub crash : IsCrashOf device (kept_of j choice) image
@@ -106,8 +106,8 @@ pub record SweepsAgain (keeps : Type 0) (stopped : Stopped) (named : NamedBlocks
   pub is_judged : IsJudgedAgain keeps stopped named first image old.not_right judged
   pub after : new ≡ record old { again = one_more old.again; not_right = judged }
 
--- an opening of an image was stopped at its write `j`, and each choice of its crash image was judged; or it was refused before that write.
--- (It ends before that write only if another opening of the image made more writes.)
+-- an opening was stopped at its write `j`, and each choice of its crash image judged; or it was refused before. (It ends before only if
+-- another opening of the image made more writes.)
 pub data SweepsOpening (keeps : Type 0) (stopped : Stopped) (named : NamedBlocks) (image : MemState) (first : Report) (j : ℕ) (old new : Counts) : Type 0 where
   StopsThere : (device : MemState) → (keeps → IsStoppedAt (state_of image) j device) → Steps (SweepsAgain keeps stopped named first j device) (choices_of j) old new →
       SweepsOpening keeps stopped named image first j old new
@@ -139,7 +139,7 @@ pub record SweepsStop (keeps : Type 0) (script : Script) (named : NamedBlocks) (
   pub run : keeps → HasRun script (Some k) None stopped
   pub choices : Steps (SweepsChoice keeps stopped named k) (choices_of k) old new
 
--- A sweep of stops: a run of the script without a stop made `writes` writes, and each was swept. All counts are sums over what was done.
+-- A sweep of stops: a run without a stop made `writes` writes, and each was swept. All counts are sums over what was done.
 pub record IsSweep (keeps : Type 0) (script : Script) (counts : Counts) : Type 0 where
   pub named : NamedBlocks
   pub names : AreNamedBy script named
@@ -166,7 +166,7 @@ pub record FailsCall (keeps : Type 0) (script : Script) (named : NamedBlocks) (k
   pub run : keeps → HasRun script None (Some k) stopped
   pub choices : Steps (FailsChoice keeps stopped named) (choices_of (writes_of stopped.device.calls)) old new
 
--- A sweep of failing calls: a run of the script without a failure made `calls` calls, and each was swept.
+-- A sweep of failing calls: a run without a failure made `calls` calls, and each was swept.
 pub record IsFailureSweep (keeps : Type 0) (script : Script) (counts : FailureCounts) : Type 0 where
   pub named : NamedBlocks
   pub names : AreNamedBy script named

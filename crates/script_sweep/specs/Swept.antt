@@ -21,7 +21,7 @@ use Rattle.script_run.specs.declared.running.Stopped.{Stopped}
 use Rattle.script_run.specs.Disks.{IsOpenedAnew, run_state}
 use Rattle.script_run.specs.Left.{HasRunAnew, IsStoppedBy}
 
--- a script was run over a device that stops at write `stop` and whose call `fail` fails, if they are named, and the run ended there
+-- a script was run over a device that stops at write `stop` and fails call `fail`, if named, and the run ended there
 pub record HasRun (script : Script) (stop fail : Option ℕ) (stopped : Stopped) : Type 0 where
   pub led : IsLedTo IsZeroHome script.operations.items (state_of stopped.device) stopped.recorded.sealed.items stopped.recorded.acknowledged
   pub lines : List ℕ
@@ -34,7 +34,7 @@ pub record HasRunNamed (stopped : Stopped) (named : NamedBlocks) : Type 0 where
   pub run : IsLedTo IsZeroHome operations (state_of stopped.device) stopped.recorded.sealed.items stopped.recorded.acknowledged
   pub directs : HasDirects operations (keys named.directs)
 
--- a script's operations were performed on an empty log of its measures, without a stop or a failure, and made so many device calls
+-- a script's operations on an empty log, without a stop or a failure, made so many device calls
 pub record MakesCalls (script : Script) (calls : ℕ) : Type 0 where
   pub opened : OpenedValue (FailOnce (StopAt MemState))
   pub anew : IsOpenedAnew script.measures None None opened

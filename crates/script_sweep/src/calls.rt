@@ -8,8 +8,8 @@ use script_run::{AfterFailure, AnyHome, Fault, RunDevice, empty_log};
 use std::alloc::Global;
 use std::io;
 
-/// How many device calls a script's operations make without a stop or a failure: reads, writes and flushes, counted after the opening of
-/// the empty log.
+/// How many device calls (reads, writes and flushes) a script's operations make after the opening of the empty log, without a stop or a
+/// failure.
 ///
 /// # Errors
 ///

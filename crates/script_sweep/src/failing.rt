@@ -16,8 +16,8 @@ use std::alloc::Global;
 use std::io::Write;
 
 /// Runs a script once for each device call that it makes. That call fails and does nothing, the script goes on, and the device stops at the
-/// end. Each choice of the last four writes gives an image, which is opened and judged. What is not right is printed on `err`, with the
-/// options by which `run` shows it, the record, and what the opening found.
+/// end. Each choice of the last four writes gives an image, which is opened and judged. What is not right is printed on `err`: the options
+/// by which `run` shows it, the record, and what the opening found.
 ///
 /// # Errors
 ///
@@ -41,7 +41,6 @@ pub fn sweep_failures<J: Swept>(
     Ok(counts)
 }
 
-/// Lets each call fail in turn, and judges the crash images.
 fn fail_calls<J: Swept>(
     alloc: Global,
     journal: &J,

@@ -43,7 +43,7 @@ impl<J: Swept> Ran<'_, J> {
     ///
     /// # Errors
     ///
-    /// `Fault::Refused`: memory ran out, or the refusal is not one of the image's contents. `Fault::Output`: `err` can't be written.
+    /// `Fault::Refused`: memory ran out, or a refusal is not of the image's contents. `Fault::Output`: `err` can't be written.
     pub(crate) fn judge_image<E: Write>(
         &self,
         place: Place<'_>,
@@ -69,7 +69,6 @@ impl<J: Swept> Ran<'_, J> {
         }
     }
 
-    /// Judges an opening of a crash image.
     fn judge_first<E: Write>(
         &self,
         place: Place<'_>,
@@ -107,7 +106,7 @@ impl<J: Swept> Ran<'_, J> {
         Ok(())
     }
 
-    /// Counts and prints a refused image. Fails if the refusal is not one of the image's contents.
+    /// Counts and prints a refused image. Fails if the refusal is not of the image's contents.
     pub(crate) fn note_refusal<E: Write>(
         &self,
         place: Place<'_>,
@@ -127,7 +126,7 @@ impl<J: Swept> Ran<'_, J> {
         Ok(())
     }
 
-    /// Whether a refusal is one of the image's contents: memory and the device did not fail, and the run had numbers left.
+    /// Whether a refusal is of the image's contents: memory and the device did not fail, and the run had numbers left.
     fn is_of_content(&self, e: JournalError) -> bool
         ensures device { IsTrue result → e ≢ Device }
         ensures memory { IsTrue result → e ≢ Memory }
@@ -140,7 +139,6 @@ impl<J: Swept> Ran<'_, J> {
         }
     }
 
-    /// Prints what is not right: the options that show it, and the record.
     fn name<E: Write>(
         &self,
         place: Place<'_>,
@@ -169,7 +167,7 @@ pub(crate) fn copy_of(device: &MemDevice) -> Result<MemDevice, JournalError>
     }
 }
 
-/// The crash image of this device that keeps this choice of its last writes up to write `k`, and the kept writes.
+/// The crash image that keeps this choice of the last writes up to write `k`, and the kept writes.
 pub(crate) fn left_by(
     alloc: Global,
     device: &MemDevice,
@@ -183,7 +181,6 @@ pub(crate) fn left_by(
     Ok((image, keep))
 }
 
-/// The crash image of this device that keeps these writes.
 fn crashed(device: &MemDevice, keep: &[u64]) -> Result<MemDevice, JournalError>
     ensures { IfOk result (IsCrashOf device.now keep.now) }
 {

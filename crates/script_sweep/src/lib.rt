@@ -1,6 +1,6 @@
-//! Sweeps. A script is run with a stop at each of its writes, and with each choice of what the last writes leave. Each crash image is
-//! opened, with a stop at each write of the opening in the same way, and every opening is judged. Or each device call of the script fails
-//! in turn, and the crash images of that run are opened and judged.
+//! Sweeps: a script is run with a stop at each of its writes, and with each choice of what the last writes leave. Each crash image is
+//! opened, with stops in the same way, and every opening is judged. Or each device call of the script fails in turn, and the crash images
+//! are opened and judged.
 #![tactic(auto)]
 
 mod calls;

@@ -30,7 +30,7 @@ impl Event {
     }
 }
 
-/// A stop or a failure, and the unflushed writes that the device kept. Displayed as the options of `run` that show it.
+/// A stop or a failure, and the unflushed writes that the device kept, displayed as the options of `run` that show it.
 #[derive(Clone, Copy)]
 pub struct Place<'a> {
     /// The stop or failure.
@@ -63,7 +63,7 @@ fn first_of_last(k: u64) -> u64
     k.saturating_sub(LAST_WRITES - 1).max(1)
 }
 
-/// How many choices there are among the last four writes up to write `k`, or among all if there are fewer.
+/// How many choices there are among the last four writes up to write `k`, or among all.
 pub fn choices(k: u64) -> u64
     ensures { result ≡ choices_of k }
 {

@@ -18,7 +18,7 @@ use std::io::Write;
 
 /// Runs a script with a stop at each of its writes. Each choice of the last four writes gives an image, which is opened. That opening is
 /// stopped at each of its writes in the same way, and its crash images are opened. Each opening is judged. What is not right is printed on
-/// `err`, with the options by which `run` shows it, the record, and what the opening found.
+/// `err`: the options by which `run` shows it, the record, and what the opening found.
 ///
 /// # Errors
 ///
@@ -78,7 +78,6 @@ struct First<'a> {
 }
 
 impl<J: Swept> Ran<'_, J> {
-    /// Sweeps all crash images of a stop at write `k`.
     fn sweep_stop<E: Write>(&self, k: u64, counts: &mut Counts, err: &mut E) -> Result<(), Fault>
         ensures { OnOk result (Steps (SweepsChoice J.keeps self.now.stopped.now self.now.named.now k) (choices_of k) counts.old counts.new) }
     {
@@ -88,7 +87,7 @@ impl<J: Swept> Ran<'_, J> {
         Ok(())
     }
 
-    /// Sweeps the crash image of a stop at write `k` that keeps this choice of the last writes.
+    /// Sweeps the crash image that keeps this choice of the last writes.
     fn sweep_choice<E: Write>(
         &self,
         k: u64,
@@ -107,7 +106,6 @@ impl<J: Swept> Ran<'_, J> {
         self.sweep_image(place, &image, counts, err)
     }
 
-    /// Opens and judges a crash image, and sweeps the stops of its opening.
     fn sweep_image<E: Write>(
         &self,
         place: Place<'_>,
@@ -123,7 +121,6 @@ impl<J: Swept> Ran<'_, J> {
         }
     }
 
-    /// Sweeps a stop at each write of the opening of an image.
     fn sweep_openings<E: Write>(
         &self,
         place: Place<'_>,
@@ -144,7 +141,7 @@ impl<J: Swept> Ran<'_, J> {
         Ok(())
     }
 
-    /// Sweeps all crash images of a stop at write `j` of the opening of an image.
+    /// Sweeps all crash images of a stop at write `j` of an opening.
     fn sweep_opening<E: Write>(
         &self,
         first: First<'_>,
@@ -165,7 +162,6 @@ impl<J: Swept> Ran<'_, J> {
         }
     }
 
-    /// Sweeps all crash images of a device that stopped at write `j` of an opening.
     fn sweep_stopped_opening<E: Write>(
         &self,
         first: First<'_>,
@@ -206,7 +202,6 @@ impl<J: Swept> Ran<'_, J> {
         }
     }
 
-    /// Judges an opening of the crash image of a stopped opening.
     fn judge_again<E: Write>(
         &self,
         first: First<'_>,

@@ -19,8 +19,8 @@ pub trait Swept {
     /// That it keeps the contracts of this project's journal.
     ghost keeps: { Type 0 };
 
-    /// Runs a script over a device in memory that stops at write `stop`, or at the end. If `failing_call` is given, that call fails and
-    /// does nothing, and later operations are performed too. Both are counted from 1 after the first opening.
+    /// Runs a script over a device in memory that stops at write `stop`, or at the end. Call `failing_call`, if given, fails and does
+    /// nothing, and the operations go on. Both are counted from 1 after the first opening.
     ///
     /// # Errors
     ///

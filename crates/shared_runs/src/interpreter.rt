@@ -1,4 +1,4 @@
-//! Does the operations of a script by the calls of a journal that threads share.
+//! Performs a script's operations by the calls of a journal that threads share.
 ghost use Rattle.std.specs.Prelude.{◌≡◌, length, IfOk};
 
 use crate::outcome::{Outcome, PRINTED_BYTES};
@@ -15,18 +15,17 @@ use std::sync::Wait;
 /// More turns than a commit can take.
 const MOST_TURNS: u32 = 2_000_000;
 
-/// A caller of a journal, and what the names of a script stand for.
+/// A client of a journal, and what the names of a script stand for.
 pub(crate) struct Interpreter<'j, J: JournalName, R: Wait> {
     rt: &'j R,
     alloc: Global,
     journal: &'j Journal<J, RunDevice, Vec<Sealed>>,
     seat: Seat<J>,
     slots: Slots<'j, J>,
-    /// The greatest transaction that was shown committed.
+    /// The greatest acknowledged transaction.
     acknowledged: Option<Tid>,
 }
 
-/// Copies bytes to the front of others, as many as both have.
 fn copy_front(to: &mut [u8], from: &[u8])
     ensures { length to.new ≡ length to.old }
 {
@@ -34,14 +33,12 @@ fn copy_front(to: &mut [u8], from: &[u8])
     to[..n].copy_from_slice(&from[..n]);
 }
 
-/// How these bytes begin, with zeros behind them where they are fewer.
 fn front_of(bytes: &[u8]) -> [u8; PRINTED_BYTES] {
     let mut begins = [0; PRINTED_BYTES];
     copy_front(&mut begins, bytes);
     begins
 }
 
-/// A block of `size` bytes: these, at most one block of them, and zeros behind them.
 fn block_of(alloc: Global, size: usize, bytes: &[u8]) -> Result<Vec<u8>, AllocError>
     ensures { IfOk result (λ block. length block.items ≡ size) }
 {
@@ -50,7 +47,7 @@ fn block_of(alloc: Global, size: usize, bytes: &[u8]) -> Result<Vec<u8>, AllocEr
     Ok(block)
 }
 
-/// How many names there are up to the greatest one of a handle that these operations start.
+/// How many names there are up to the greatest whose handle an operation starts.
 fn names_in(operations: &[Operation]) -> usize {
     let mut names = 0;
     for operation in operations {
@@ -61,7 +58,6 @@ fn names_in(operations: &[Operation]) -> usize {
     names
 }
 
-/// What a call came to that answers nothing more.
 fn done_or_refused(answer: Result<(), JournalError>) -> Outcome {
     match answer {
         Ok(()) => Outcome::Done,
@@ -94,7 +90,7 @@ impl<'j, J: JournalName, R: Wait> Interpreter<'j, J, R> {
         })
     }
 
-    /// Does an operation, and tells what it came to.
+    /// Performs an operation.
     pub(crate) fn perform(&mut self, operation: &Operation) -> Outcome {
         match operation {
             Operation::Start(name, credits) => self.start(*name, *credits),
@@ -117,7 +113,7 @@ impl<'j, J: JournalName, R: Wait> Interpreter<'j, J, R> {
         }
     }
 
-    /// Stops the open handles that names stand for. It answers the greatest transaction that was shown committed.
+    /// Stops the open handles. Returns the greatest acknowledged transaction.
     pub(crate) fn finish(self) -> Option<Tid> {
         let Interpreter {
             rt,
@@ -140,12 +136,11 @@ impl<'j, J: JournalName, R: Wait> Interpreter<'j, J, R> {
         acknowledged
     }
 
-    /// Takes what a name stands for. It then stands for nothing.
     fn take(&mut self, name: HandleName) -> Slot<'j, J> {
         self.slots.replace(name, Slot::Empty)
     }
 
-    /// Lets a name stand for something else. An open handle that it stood for is stopped, which no script asks for.
+    /// Puts something at a name. An open handle there is stopped, which no script asks for.
     fn put(&mut self, name: HandleName, slot: Slot<'j, J>) {
         match self.slots.replace(name, slot) {
             Slot::Open(handle) => {
@@ -155,12 +150,11 @@ impl<'j, J: JournalName, R: Wait> Interpreter<'j, J, R> {
         }
     }
 
-    /// Notes that a transaction was shown committed.
     fn acknowledge(&mut self, tid: Tid) {
         self.acknowledged = self.acknowledged.max(Some(tid));
     }
 
-    /// Starts a handle, where its name stands for no open one. Where the start is refused the name stands for nothing.
+    /// Starts a handle, if its name stands for no open one. After a refusal the name stands for nothing.
     fn start(&mut self, name: HandleName, credits: u64) -> Outcome {
         if !self.slots.is_free(name) {
             return Outcome::Skipped;
@@ -178,7 +172,6 @@ impl<'j, J: JournalName, R: Wait> Interpreter<'j, J, R> {
         }
     }
 
-    /// Writes, revokes or reads a block through the open handle that a name stands for, or gives that handle further credits.
     fn touch(&mut self, name: HandleName, operation: &Operation) -> Outcome {
         match self.take(name) {
             Slot::Open(handle) => {
@@ -194,7 +187,6 @@ impl<'j, J: JournalName, R: Wait> Interpreter<'j, J, R> {
         }
     }
 
-    /// Writes, revokes or reads a block through a handle, or gives it further credits.
     fn touch_by(
         &mut self,
         handle: &mut Handle<'j, J, Vec<Sealed>>,
@@ -211,7 +203,6 @@ impl<'j, J: JournalName, R: Wait> Interpreter<'j, J, R> {
         }
     }
 
-    /// Writes a block through a handle: these bytes, and zeros behind them.
     fn write(
         &mut self,
         handle: &mut Handle<'j, J, Vec<Sealed>>,
@@ -224,7 +215,6 @@ impl<'j, J: JournalName, R: Wait> Interpreter<'j, J, R> {
         }
     }
 
-    /// Reads a block through a handle.
     fn read(&mut self, handle: &mut Handle<'j, J, Vec<Sealed>>, block: BlockNo) -> Outcome {
         match vec![in self.alloc; 0; self.journal.block_size()] {
             Ok(mut bytes) => match self.journal.read(self.rt, handle, block, &mut bytes) {
@@ -235,7 +225,7 @@ impl<'j, J: JournalName, R: Wait> Interpreter<'j, J, R> {
         }
     }
 
-    /// Reserves further credits, and gives them to a handle; where that is refused, they go back.
+    /// Reserves credits and adds them to a handle; if it refuses them, they go back.
     fn extend(&mut self, handle: &mut Handle<'j, J, Vec<Sealed>>, credits: u64) -> Outcome {
         match self.journal.reserve(&mut self.seat, credits) {
             Ok(granted) => match self.journal.extend(self.rt, handle, granted) {
@@ -249,7 +239,7 @@ impl<'j, J: JournalName, R: Wait> Interpreter<'j, J, R> {
         }
     }
 
-    /// Stops a handle and starts another one in its place. Where that is refused the name stands for the stopped one's ticket.
+    /// Restarts a handle. After a refusal the name stands for the stopped handle's ticket.
     fn restart(&mut self, name: HandleName, credits: u64) -> Outcome {
         match self.take(name) {
             Slot::Open(handle) => self.restart_open(name, handle, credits),
@@ -260,7 +250,6 @@ impl<'j, J: JournalName, R: Wait> Interpreter<'j, J, R> {
         }
     }
 
-    /// The same of an open handle.
     fn restart_open(
         &mut self,
         name: HandleName,
@@ -283,7 +272,6 @@ impl<'j, J: JournalName, R: Wait> Interpreter<'j, J, R> {
         }
     }
 
-    /// Stops a handle.
     fn stop(&mut self, name: HandleName) -> Outcome {
         match self.take(name) {
             Slot::Open(handle) => {
@@ -299,7 +287,7 @@ impl<'j, J: JournalName, R: Wait> Interpreter<'j, J, R> {
         }
     }
 
-    /// Asks for a commit. The transaction of a receipt is committed already, so nothing is left to ask the journal for.
+    /// Requests a commit; for a receipt, whose transaction is committed, the journal need not be asked.
     fn request(&mut self, name: HandleName) -> Outcome {
         match self.take(name) {
             Slot::Stopped(ticket) => {
@@ -319,7 +307,7 @@ impl<'j, J: JournalName, R: Wait> Interpreter<'j, J, R> {
         }
     }
 
-    /// What the journal answers of every ticket once its device has failed.
+    /// Refuses once the device has failed, as the journal does for every ticket.
     fn unless_aborted(&self) -> Result<(), JournalError> {
         if self.journal.is_aborted(self.rt) {
             Err(JournalError::Aborted)
@@ -328,7 +316,6 @@ impl<'j, J: JournalName, R: Wait> Interpreter<'j, J, R> {
         }
     }
 
-    /// Locks the running transaction.
     fn lock(&mut self) -> Outcome {
         match self.journal.lock(self.rt) {
             Ok(tid) => Outcome::Transaction(tid),
@@ -336,7 +323,6 @@ impl<'j, J: JournalName, R: Wait> Interpreter<'j, J, R> {
         }
     }
 
-    /// Takes one commit turn.
     fn turn(&mut self) -> Outcome {
         match self.journal.commit_turn(self.rt) {
             Ok(turn) => Outcome::Turn(turn),
@@ -344,7 +330,6 @@ impl<'j, J: JournalName, R: Wait> Interpreter<'j, J, R> {
         }
     }
 
-    /// Takes one checkpoint turn.
     fn checkpoint_turn(&mut self) -> Outcome {
         match self.journal.checkpoint_turn(self.rt) {
             Ok(turn) => Outcome::CheckTurn(turn),
@@ -352,7 +337,6 @@ impl<'j, J: JournalName, R: Wait> Interpreter<'j, J, R> {
         }
     }
 
-    /// Takes checkpoint turns up to the first that has nothing to do.
     fn check(&mut self) -> Outcome {
         for _ in 0..MOST_TURNS {
             match self.journal.checkpoint_turn(self.rt) {
@@ -364,7 +348,6 @@ impl<'j, J: JournalName, R: Wait> Interpreter<'j, J, R> {
         Outcome::CheckTurn(CheckTurn::Idle)
     }
 
-    /// Takes commit turns up to the first that has nothing to do.
     fn commit(&mut self) -> Outcome {
         for _ in 0..MOST_TURNS {
             match self.journal.commit_turn(self.rt) {
@@ -376,12 +359,12 @@ impl<'j, J: JournalName, R: Wait> Interpreter<'j, J, R> {
         self.mark()
     }
 
-    /// The last transaction that is told to be committed.
+    /// The last transaction that the journal reports committed.
     fn mark(&mut self) -> Outcome {
         Outcome::Transaction(self.journal.seen(&mut self.seat))
     }
 
-    /// Says whether a transaction is committed. Where it is, that is noted.
+    /// The status of a name's transaction. If it is committed, that is noted.
     fn status(&mut self, name: HandleName) -> Outcome {
         match self.take(name) {
             Slot::Stopped(ticket) => {
@@ -402,7 +385,6 @@ impl<'j, J: JournalName, R: Wait> Interpreter<'j, J, R> {
         }
     }
 
-    /// What a status of this transaction is, as an operation tells it. Where it is committed, that is noted.
     fn told(&mut self, tid: Tid, status: Status) -> Outcome {
         match status {
             Status::Committed => {
@@ -413,7 +395,7 @@ impl<'j, J: JournalName, R: Wait> Interpreter<'j, J, R> {
         }
     }
 
-    /// Takes the receipt of a committed transaction, which is noted. Of any other nothing is awaited.
+    /// Takes the receipt of a committed transaction, and notes it. Does not wait for an open one.
     fn wait(&mut self, name: HandleName) -> Outcome {
         match self.take(name) {
             Slot::Stopped(ticket) => self.wait_for(name, ticket),
@@ -429,7 +411,7 @@ impl<'j, J: JournalName, R: Wait> Interpreter<'j, J, R> {
         }
     }
 
-    /// Takes the receipt for a ticket, where its transaction is committed.
+    /// Takes the receipt for a ticket, if its transaction is committed.
     fn wait_for(&mut self, name: HandleName, ticket: Ticket<J, Vec<Sealed>>) -> Outcome {
         if matches!(self.journal.status(&ticket, &mut self.seat), Status::Open) {
             self.put(name, Slot::Stopped(ticket));
@@ -454,7 +436,7 @@ impl<'j, J: JournalName, R: Wait> Interpreter<'j, J, R> {
         }
     }
 
-    /// What is told of a receipt: its transaction, which is noted, or what the journal answers of every ticket once it is aborted.
+    /// The outcome for a receipt: its transaction, which is noted, or `Aborted` as for every ticket of an aborted journal.
     fn tell(&mut self, receipt: &Receipt<J, Vec<Sealed>>) -> Outcome {
         if let Err(e) = self.unless_aborted() {
             return Outcome::Refused(e);
@@ -463,7 +445,6 @@ impl<'j, J: JournalName, R: Wait> Interpreter<'j, J, R> {
         Outcome::Transaction(receipt.tid())
     }
 
-    /// Writes these bytes directly, with zeros behind them.
     fn write_direct(&mut self, block: BlockNo, bytes: &[u8]) -> Outcome {
         match block_of(self.alloc, self.journal.block_size(), bytes) {
             Ok(whole) => { done_or_refused(self.journal.write_direct(self.rt, block, &whole)) }

@@ -1,21 +1,21 @@
-//! What an operation came to, and its line.
+//! The outcome of an operation, and its line.
 use journal_model::{JournalError, Tid};
 use journal_script::Operation;
 use shared_journal::{CheckTurn, Turn};
 use std::io;
 use std::io::Write;
 
-/// How many bytes of a home block are printed.
+/// How many bytes of a read block are printed.
 pub(crate) const PRINTED_BYTES: usize = 8;
 
-/// What an operation came to.
+/// The outcome of an operation.
 #[derive(Clone, Copy)]
 pub(crate) enum Outcome {
-    /// It is accepted, and this is the number of the transaction that it is about.
+    /// Accepted; the number of the transaction that it is about.
     Transaction(Tid),
-    /// It is accepted.
+    /// Accepted.
     Done,
-    /// It is accepted, and the block begins so.
+    /// Accepted; the first bytes of the block.
     Begins([u8; PRINTED_BYTES]),
     /// What a commit turn did.
     Turn(Turn),
@@ -27,7 +27,7 @@ pub(crate) enum Outcome {
     Open,
     /// It did not run.
     Skipped,
-    /// It is refused.
+    /// Refused.
     Refused(JournalError),
 }
 
@@ -42,7 +42,6 @@ pub(crate) fn write_line(
     writeln!(out)
 }
 
-/// Writes what an operation came to.
 fn write_outcome(outcome: &Outcome, out: &mut Vec<u8>) -> io::Result<()> {
     match outcome {
         Outcome::Transaction(tid) => write!(out, "{}", tid.0),
@@ -57,7 +56,6 @@ fn write_outcome(outcome: &Outcome, out: &mut Vec<u8>) -> io::Result<()> {
     }
 }
 
-/// Writes bytes as digits of base 16.
 fn write_bytes(bytes: &[u8], out: &mut Vec<u8>) -> io::Result<()> {
     for byte in bytes {
         write!(out, "{byte:02x}")?;
@@ -65,7 +63,6 @@ fn write_bytes(bytes: &[u8], out: &mut Vec<u8>) -> io::Result<()> {
     Ok(())
 }
 
-/// Writes what a commit turn did.
 fn write_turn(turn: Turn, out: &mut Vec<u8>) -> io::Result<()> {
     match turn {
         Turn::Idle => write!(out, "idle"),
@@ -76,7 +73,6 @@ fn write_turn(turn: Turn, out: &mut Vec<u8>) -> io::Result<()> {
     }
 }
 
-/// Writes what a checkpoint turn did.
 fn write_check_turn(turn: CheckTurn, out: &mut Vec<u8>) -> io::Result<()> {
     match turn {
         CheckTurn::Idle => write!(out, "idle"),

@@ -15,15 +15,14 @@ use std::alloc::Global;
 use std::marker::Brand;
 use std::sync::Wait;
 
-/// What is left of a journal when operations were done by it.
+/// The device and the record after operations were performed.
 #[derive(Drop)]
 struct Done {
     device: RunDevice,
     recorded: Record,
 }
 
-/// Runs a script, and prints its lines, the dump of what the stop left, and the verdict on what openings of that give back, which is also
-/// the answer.
+/// Runs a script, and prints its lines, the dump of the crash image, and the verdict on its openings, which is the answer.
 ///
 /// # Errors
 ///
@@ -53,7 +52,7 @@ pub fn run<R: Wait>(
     )
 }
 
-/// Runs a script as `run` does, and writes what its stop left to a device, before that is opened.
+/// Runs a script as `run` does, and copies the crash image to a device before it is opened.
 ///
 /// # Errors
 ///
@@ -79,13 +78,12 @@ pub fn run_copied<D: Device, R: Wait>(
     judge_copied(alloc, left, to, stops.opening, &named, out)
 }
 
-/// The blocks that a script names.
 fn named_in(alloc: Global, script: &Script) -> Result<NamedBlocks, JournalError> {
     Ok(script.named_blocks(alloc)?)
 }
 
-/// Runs the operations of a script on an empty log, and prints a line for each. The device stops at write `stop`, or at the end; where
-/// `failing_call` is a call, that one fails.
+/// Runs a script's operations on an empty log, and prints a line for each. The device stops at write `stop`, or at the end; call
+/// `failing_call`, if given, fails.
 ///
 /// # Errors
 ///
@@ -106,7 +104,7 @@ pub fn run_operations<R: Wait>(
     run_operations_over(rt, alloc, opened, &script.operations, after, stop, out)
 }
 
-/// Runs operations over an opened log, and prints a line for each.
+/// Runs operations on an opened log, and prints a line for each.
 ///
 /// # Errors
 ///
@@ -129,7 +127,7 @@ pub fn run_operations_over<R: Wait>(
     })
 }
 
-/// How many device calls a script's operations make, where the device does not stop and no call fails.
+/// How many device calls a script's operations make, without a stop or a failure.
 ///
 /// # Errors
 ///
@@ -142,7 +140,7 @@ pub fn calls_of_run<R: Wait>(rt: &R, alloc: Global, script: &Script) -> Result<u
     Ok(done.device.calls())
 }
 
-/// Does operations by a new journal on an opened log, and ends that as it is then.
+/// Performs operations on a new journal on an opened log, and ends the journal without a close.
 fn done_on<R: Wait>(
     rt: &R,
     alloc: Global,
@@ -157,7 +155,6 @@ fn done_on<R: Wait>(
     }
 }
 
-/// The same by a journal that J names.
 fn done_by<J: JournalName, R: Wait>(
     rt: &R,
     alloc: Global,
@@ -180,8 +177,7 @@ fn done_by<J: JournalName, R: Wait>(
     })
 }
 
-/// Does operations, and prints a line for each. The open handles that names stand for are stopped at the end. It answers the greatest
-/// transaction that was shown committed.
+/// Performs operations, prints a line for each, and stops the open handles. Returns the greatest acknowledged transaction.
 fn perform<J: JournalName, R: Wait>(
     rt: &R,
     alloc: Global,
@@ -200,7 +196,7 @@ fn perform<J: JournalName, R: Wait>(
     }
 }
 
-/// Does operations up to the one that is the last, and prints a line for each.
+/// Performs operations up to the one that ends the list, and prints a line for each.
 fn perform_all<J: JournalName, R: Wait>(
     interpreter: &mut Interpreter<'_, J, R>,
     operations: &[Operation],
@@ -217,7 +213,6 @@ fn perform_all<J: JournalName, R: Wait>(
     Ok(())
 }
 
-/// Whether no operation is done behind one that came to this.
 fn is_last(outcome: &Outcome, after: AfterFailure) -> bool {
     after == AfterFailure::End && matches!(outcome, Outcome::Refused(JournalError::Device))
 }

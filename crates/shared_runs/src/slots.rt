@@ -8,23 +8,23 @@ use std::mem;
 
 /// What a name stands for.
 pub(crate) enum Slot<'j, J: JournalName> {
-    /// Nothing: its handle's start was refused, or none was tried.
+    /// Nothing: no start was tried, or it was refused.
     Empty,
     /// An open handle.
     Open(Handle<'j, J, Vec<Sealed>>),
     /// The ticket of a stopped handle.
     Stopped(Ticket<J, Vec<Sealed>>),
-    /// The receipt that a stopped handle's ticket was given for.
+    /// The receipt of a stopped handle's ticket.
     Waited(Receipt<J, Vec<Sealed>>),
 }
 
-/// What each name stands for.
+/// One slot for each name.
 pub(crate) struct Slots<'j, J: JournalName> {
     slots: Vec<Slot<'j, J>>,
 }
 
 impl<'j, J: JournalName> Slots<'j, J> {
-    /// So many names, of which none stands for anything. The room is for a slot of each.
+    /// Slots of `names` names that stand for nothing. `room` must be empty, with room for each.
     pub(crate) fn of(room: Vec<Slot<'j, J>>, names: usize) -> Self
         requires empty { room.items ≡ [] }
         requires capacity { vec_capacity room ≡ names }
@@ -36,7 +36,7 @@ impl<'j, J: JournalName> Slots<'j, J> {
         Slots { slots }
     }
 
-    /// Whether a name stands for no open handle.
+    /// Whether a name exists and stands for no open handle.
     pub(crate) fn is_free(&self, name: HandleName) -> bool {
         match self.slots.get(name.index()) {
             Some(Slot::Open(_)) | None => false,
@@ -44,7 +44,7 @@ impl<'j, J: JournalName> Slots<'j, J> {
         }
     }
 
-    /// Lets a name stand for something else. What it stood for comes back.
+    /// Puts something at a name. Returns what it stood for.
     pub(crate) fn replace(&mut self, name: HandleName, slot: Slot<'j, J>) -> Slot<'j, J> {
         if name.index() < self.slots.len() {
             mem::replace(&mut self.slots[name.index()], slot)
@@ -53,7 +53,7 @@ impl<'j, J: JournalName> Slots<'j, J> {
         }
     }
 
-    /// What the names stand for, in their order.
+    /// The slots, in the order of their names.
     pub(crate) fn into_slots(self) -> Vec<Slot<'j, J>> {
         let Slots { slots } = self;
         slots

@@ -8,9 +8,8 @@ use run_rows::texts::written;
 use script_run::{Stop, Stops};
 use std::alloc::Global;
 
-/// Runs of which each call fails in turn. Given: a line as `calls 1 to 13, any of the last 4 writes kept`, and a script. Found:
-/// each way in which runs end, with what an opening finds, the named blocks and the verdict, and the calls of which some kept writes
-/// make a run end so.
+/// Runs of which each call fails in turn. Given: a line like `calls 1 to 13, any of the last 4 writes kept`, and a script. Found: each way
+/// in which runs end (what an opening finds, the named blocks and the verdict), with the calls that lead to it for some kept writes.
 pub fn failures<J: Runner>(alloc: Global, journal: &J, given: &str) -> Result<String, RowError> {
     let given = given_of(alloc, given)?;
     let mut endings = Vec::new(alloc);
@@ -20,7 +19,7 @@ pub fn failures<J: Runner>(alloc: Global, journal: &J, given: &str) -> Result<St
     Ok(endings_text(alloc, &endings, "calls")?)
 }
 
-/// Adds how runs end of which this call fails, and which keep any of the last writes.
+/// Adds how runs with a failure of this call end, for each choice of the last writes.
 fn add_failure<J: Runner>(
     alloc: Global,
     journal: &J,
@@ -36,7 +35,6 @@ fn add_failure<J: Runner>(
     Ok(())
 }
 
-/// How many writes a run makes of which this call fails.
 fn writes_of<J: Runner>(
     alloc: Global,
     journal: &J,
@@ -49,7 +47,6 @@ fn writes_of<J: Runner>(
     }
 }
 
-/// Adds how a run ends of which this call fails, and which keeps these writes.
 fn add_run<J: Runner>(
     alloc: Global,
     journal: &J,
@@ -76,7 +73,7 @@ fn add_run<J: Runner>(
     }
 }
 
-/// Adds how a run ends that printed these lines, where this call was to fail: it did where an operation was refused for that.
+/// Adds an ending from these lines; the call failed if an operation was refused for that.
 fn add_lines(
     alloc: Global,
     lines: &str,

@@ -1,6 +1,5 @@
-//! What is done with rows of sweeps, of wrong journals too; of runs of which calls fail; and of verdicts on records made by hand.
-//!
-//! A row gives a text and says what text is wanted. Each kind of rows is a function here.
+//! Rows of sweeps, also of wrong journals; of runs with failing calls; and of verdicts on records made by hand. A row gives a text, and the
+//! text that is wanted; each kind of rows is a function.
 #![tactic(auto)]
 
 pub mod failures;

@@ -1,4 +1,4 @@
-//! The journal that threads share, as one that is swept.
+//! The journal that threads share, as a sweep uses it.
 use block_device::MemDevice;
 use journal_model::JournalError;
 use journal_script::Script;

@@ -8,8 +8,8 @@ use script_sweep::{Counts, FailureCounts, NotRight, Swept, sweep, sweep_failures
 use std::alloc::{AllocError, Global};
 use std::fmt::Write;
 
-/// Sweeps of a journal. Given: a script. Found: how many writes, images and openings of images that stopped there were,
-/// and how many of all these openings did not come to a verdict that is ok; and what named itself.
+/// Sweeps of a journal. Given: a script. Found: how many writes, images and crash images of stopped openings there were, how many openings
+/// had no ok verdict, and the lines on these.
 pub fn sweeps<J: Swept>(alloc: Global, journal: &J, given: &str) -> Result<String, RowError> {
     let mut err = Vec::new(alloc);
     let counts = counts_of(alloc, journal, given, &mut err)?;
@@ -26,8 +26,8 @@ pub fn sweeps<J: Swept>(alloc: Global, journal: &J, given: &str) -> Result<Strin
     Ok(told)
 }
 
-/// Sweeps of the failing calls of a journal. Given: a script. Found: how many calls it makes, and how many openings behind
-/// runs of which one failed did not come to a verdict that is ok; and what named itself.
+/// Sweeps of a journal's failing calls. Given: a script. Found: how many calls it makes, how many openings after runs with a failed call
+/// had no ok verdict, and the lines on these.
 pub fn failure_sweeps<J: Swept>(
     alloc: Global,
     journal: &J,
@@ -46,8 +46,8 @@ pub fn failure_sweeps<J: Swept>(
     Ok(told)
 }
 
-/// Sweeps of wrong journals. Given: on a line what overtakes a flush, as `a commit block`, `a superblock`, `a transaction`, or in
-/// openings `a superblock of an opening`; and behind it a script. Found: whether a verdict is false.
+/// Sweeps of wrong journals. Given: a line with what overtakes a flush, like `a commit block`, `a superblock`, `a transaction`, or in
+/// openings `a superblock of an opening`; and a script. Found: whether a verdict is false.
 pub fn wrong_journals(alloc: Global, given: &str) -> Result<String, RowError> {
     let (name, script) = cut(given, "\n")?;
     let mut err = Vec::new(alloc);
@@ -55,8 +55,8 @@ pub fn wrong_journals(alloc: Global, given: &str) -> Result<String, RowError> {
     found_text(alloc, counts.not_right)
 }
 
-/// Sweeps of the failing calls of a journal. Given: on a line `heeded`, or `ignored` where the journal goes on as if no call had
-/// failed; and behind it a script. Found: of each call behind whose failure a verdict is false the line that names the first one.
+/// Sweeps of a journal's failing calls. Given: a line `heeded`, or `ignored` if the journal goes on as if no call had failed; and a script.
+/// Found: for each call whose failure leads to a false verdict, the line of the first one.
 pub fn ignored_failures(alloc: Global, given: &str) -> Result<String, RowError> {
     let (word, script) = cut(given, "\n")?;
     let mut err = Vec::new(alloc);
@@ -67,7 +67,6 @@ pub fn ignored_failures(alloc: Global, given: &str) -> Result<String, RowError> 
     Ok(first_of_each_call(alloc, written(&err)?)?)
 }
 
-/// Of the lines that name what is not right the first one of each call.
 fn first_of_each_call(alloc: Global, named: &str) -> Result<String, AllocError> {
     let mut firsts = String::new(alloc);
     let mut last = None;
@@ -81,13 +80,11 @@ fn first_of_each_call(alloc: Global, named: &str) -> Result<String, AllocError> 
     Ok(firsts)
 }
 
-/// The number of the call that a line names, if it names what is not right.
 fn call_named(line: &str) -> Option<u64> {
     let (options, _) = line.strip_prefix("not right: --fail ")?.split_once(',')?;
     options.split(' ').next()?.parse().ok()
 }
 
-/// Whether a verdict is false.
 fn found_text(alloc: Global, not_right: NotRight) -> Result<String, RowError> {
     let told = if not_right.count() > 0 {
         "a verdict is false"
@@ -97,7 +94,6 @@ fn found_text(alloc: Global, not_right: NotRight) -> Result<String, RowError> {
     Ok(String::from_str(alloc, told)?)
 }
 
-/// The wrong journal of a name.
 fn wrong_journal(name: &str) -> Result<WrongJournal, RowError> {
     let (runs, openings) = match name {
         "nothing" => (Order::AsMade, Order::AsMade),
@@ -114,7 +110,6 @@ fn wrong_journal(name: &str) -> Result<WrongJournal, RowError> {
     })
 }
 
-/// The journal whose failed calls are heeded, or ignored.
 fn failing_journal(word: &str) -> Result<WrongJournal, RowError> {
     let ignores_failures = match word {
         "heeded" => false,
@@ -128,7 +123,6 @@ fn failing_journal(word: &str) -> Result<WrongJournal, RowError> {
     })
 }
 
-/// What a sweep of the stops of a journal counts.
 fn counts_of<J: Swept>(
     alloc: Global,
     journal: &J,
@@ -142,7 +136,6 @@ fn counts_of<J: Swept>(
     }
 }
 
-/// What a sweep of the failing calls of a journal counts.
 fn failure_counts_of<J: Swept>(
     alloc: Global,
     journal: &J,

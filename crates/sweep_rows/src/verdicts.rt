@@ -1,8 +1,8 @@
-//! Rows of verdicts on records and devices that are made by hand, where a run never leaves them so.
+//! Rows of verdicts on records and devices made by hand, as a run never leaves them.
 //!
-//! A row has parts with `; ` between two: `2 writes 3 07` is a sealed transaction 2 in which block 3 becomes bytes 07,
-//! `acknowledged 2` the greatest transaction that was shown committed, `end 3` the end that an opening found, and `home 3 07` a
-//! block of home that is named, and reads so. A block has 16 bytes.
+//! A row has parts with `; ` between them: `2 writes 3 07` is a sealed transaction 2 in which block 3 becomes bytes 07; `acknowledged 2`
+//! the greatest acknowledged transaction; `end 3` the end that an opening found; and `home 3 07` a named home block with these bytes. A
+//! block has 16 bytes.
 use block_device::{Device, MemDevice};
 use format_rows::RowError;
 use format_rows::words::{cut, hex_bytes, number, number32};
@@ -11,13 +11,10 @@ use journal_script::NamedBlocks;
 use script_run::Record;
 use std::alloc::{AllocError, Global};
 
-/// Bytes of a block.
 const SIZE: usize = 16;
 
-/// Blocks of home.
 const HOME: u64 = 8;
 
-/// A record and a device.
 #[derive(Drop)]
 struct Left {
     record: Record,
@@ -26,7 +23,7 @@ struct Left {
     named: NamedBlocks,
 }
 
-/// How many recorded transactions are below the end, and the verdict on the named blocks for these: as `n=1, right true`.
+/// How many recorded transactions are below the end, and the verdict on the named blocks for these: like `n=1, right true`.
 pub fn verdict(alloc: Global, given: &str) -> Result<String, RowError> {
     let mut left = nothing_left(alloc);
     for part in given.split("; ") {
@@ -40,7 +37,6 @@ pub fn verdict(alloc: Global, given: &str) -> Result<String, RowError> {
     }
 }
 
-/// A record of nothing, and a device of zeros.
 fn nothing_left(alloc: Global) -> Left {
     Left {
         record: Record {
@@ -53,7 +49,6 @@ fn nothing_left(alloc: Global) -> Left {
     }
 }
 
-/// Adds what a part says.
 fn add_part(alloc: Global, left: &mut Left, word: &str, behind: &str) -> Result<(), RowError> {
     match word {
         "acknowledged" => left.record.acknowledged = Some(Tid(number32(behind)?)),
@@ -70,12 +65,11 @@ fn add_part(alloc: Global, left: &mut Left, word: &str, behind: &str) -> Result<
     Ok(())
 }
 
-/// Adds a transaction to a record.
 fn seal(record: &mut Record, transaction: Sealed) -> Result<(), AllocError> {
     Ok(record.sealed.push(transaction)?)
 }
 
-/// The transaction of this number, with the one write of a text as `3 07`.
+/// The transaction with the one write of a text like `3 07`.
 fn transaction(alloc: Global, tid: u32, written: &str) -> Result<Sealed, RowError> {
     let (block, bytes) = block_in(alloc, written)?;
     let mut steps = Items::new(alloc);
@@ -91,7 +85,6 @@ fn transaction(alloc: Global, tid: u32, written: &str) -> Result<Sealed, RowErro
     })
 }
 
-/// Names the block of a text as `3 07`, and writes it.
 fn write_home(alloc: Global, left: &mut Left, written: &str) -> Result<(), RowError> {
     let (block, bytes) = block_in(alloc, written)?;
     if block >= left.device.blocks(Area::Home) || left.device.block_size() != SIZE {
@@ -104,7 +97,6 @@ fn write_home(alloc: Global, left: &mut Left, written: &str) -> Result<(), RowEr
     }
 }
 
-/// The number and the bytes of a text as `3 07`.
 fn block_in(alloc: Global, written: &str) -> Result<(u64, [u8; SIZE]), RowError> {
     let (block, byte) = cut(written, " ")?;
     match hex_bytes(alloc, byte)?.as_slice() {

@@ -1,6 +1,5 @@
-//! Journals that are wrong: this project's, over a disk in memory that takes some calls in another order than they are made in, or
-//! loses one and tells nothing of that. What such a disk holds at each moment is what a journal leaves on it that makes its calls in
-//! that order, or goes on as if no call had failed.
+//! Wrong journals: this project's, over a disk in memory that takes some calls in another order, or silently loses one. Such a disk holds
+//! what a journal would leave that makes its calls in that order, or goes on as if no call had failed.
 ghost use Rattle.std.specs.Prelude.{◌≡◌};
 
 use block_device::{Device, DeviceFault, FailOnce, MemDevice, StopAt};
@@ -13,7 +12,7 @@ use script_sweep::{Attempt, Fault, OpenedImage, Stopped, Swept, calls_of_run};
 use std::alloc::Global;
 use std::io;
 
-/// Which calls overtake a flush that was made before them, and which is done before the call behind them.
+/// Which calls overtake an earlier flush, which is then done before the call after them.
 #[derive(Clone, Copy, PartialEq, Eq)]
 pub enum Order {
     /// None.
@@ -26,7 +25,7 @@ pub enum Order {
     TransactionFirst,
 }
 
-/// This project's journal, whose calls a disk takes in this order, those of openings in that.
+/// This project's journal, over a disk that takes its calls in these orders.
 #[derive(Clone, Copy)]
 pub struct WrongJournal {
     /// The order in runs.
@@ -37,33 +36,31 @@ pub struct WrongJournal {
     pub ignores_failures: bool,
 }
 
-/// What `StopAt`, `FailOnce` and `Reordered` take for no stop, no failure and no lost call.
+/// `StopAt`, `FailOnce` and `Reordered` take this for no stop, no failure and no lost call.
 const NEVER: u64 = 0;
 
-/// The device of its runs.
 type WrongDevice = FailOnce<StopAt<Reordered>>;
 
-/// A disk that takes calls in another order, and loses one. It tells its caller what a disk would that takes them as they are made.
+/// A disk that takes calls in another order, and loses one. It answers as a disk that takes them as they are made.
 #[derive(Drop)]
 struct Reordered {
     told: MemDevice,
     real: MemDevice,
     order: Order,
-    /// The call that is lost, counted from 1.
+    /// The lost call, counted from 1.
     lost: u64,
     /// How many calls were made.
     calls: u64,
-    /// The flush that waits, if one does.
+    /// The waiting flush, if any.
     waiting: Option<Area>,
-    /// Whether the last write was one of the superblock.
+    /// Whether the last write was to the superblock.
     behind_superblock: bool,
 }
 
-/// The magic of the log's blocks, and the type of a commit block, as they stand at its front.
+/// The magic and the type of a commit block, as it begins with them.
 const COMMIT_BLOCK: [u8; 8] = [0xc0, 0x3b, 0x39, 0x98, 0, 0, 0, 2];
 
 impl Reordered {
-    /// A disk in the place of this one.
     fn over(disk: MemDevice, order: Order, lost: u64) -> Result<Self, JournalError> {
         match disk.try_clone() {
             Ok(told) => Ok(Reordered {
@@ -79,13 +76,13 @@ impl Reordered {
         }
     }
 
-    /// What it holds in truth when no call comes any more: the flush that waits is done.
+    /// The true content after the last call; the waiting flush is done.
     fn into_real(mut self) -> MemDevice {
         self.flush_waiting();
         self.into_stopped()
     }
 
-    /// What it holds in truth when the power goes away.
+    /// The true content after a loss of power.
     fn into_stopped(self) -> MemDevice {
         let Reordered {
             told: _,
@@ -99,7 +96,6 @@ impl Reordered {
         real
     }
 
-    /// Whether a write overtakes the flush of an area that waits.
     fn overtakes(&self, waiting: Area, area: Area, n: u64, bytes: &[u8]) -> bool {
         match self.order {
             Order::AsMade => false,
@@ -113,7 +109,6 @@ impl Reordered {
         }
     }
 
-    /// Counts a call. The answer is whether it is the one that is lost.
     fn loses(&mut self) -> bool
         ensures { self.new.told ≡ self.old.told }
     {
@@ -121,7 +116,6 @@ impl Reordered {
         self.calls == self.lost
     }
 
-    /// Does the flush that waits.
     fn flush_waiting(&mut self)
         ensures { self.new.told ≡ self.old.told }
     {
@@ -130,7 +124,7 @@ impl Reordered {
         }
     }
 
-    /// Takes a write.
+    /// Takes a write, after the waiting flush unless the write overtakes it.
     fn write_real(&mut self, area: Area, n: u64, bytes: &[u8])
         ensures { self.new.told ≡ self.old.told }
     {
@@ -194,14 +188,12 @@ impl Device for Reordered {
 }
 
 impl WrongJournal {
-    /// A disk that takes calls in the order of openings, and stops at write `k`, or never.
     fn device(&self, disk: MemDevice, k: u64) -> Result<StopAt<Reordered>, JournalError> {
         let disk = Reordered::over(disk, self.openings, NEVER)?;
         Ok(StopAt::new(disk, k))
     }
 
-    /// An empty disk that takes calls in the order of runs, and stops at write `stop`, or never. Call `call` of it fails, or is lost
-    /// where this journal ignores that.
+    /// The disk of a run, which stops at write `stop`, or never; call `call` fails, or is lost if this journal ignores failures.
     fn run_device(
         &self,
         disk: MemDevice,
@@ -217,7 +209,7 @@ impl WrongJournal {
         Ok(FailOnce::new(StopAt::new(disk, stop), fails))
     }
 
-    /// The opened log of an empty disk for a run. The stop and the call are counted behind the opening.
+    /// Opens an empty log for a run; the stop and the call are counted after that.
     fn opened(
         &self,
         alloc: Global,
@@ -236,7 +228,7 @@ impl WrongJournal {
     }
 }
 
-/// The number of this call behind the opening of an empty log, counted from before that, or `NEVER` for none.
+/// The number of a call after the opening, counted from before it; `NEVER` for none.
 fn call_behind_opening(
     alloc: Global,
     measures: &Measures,
@@ -248,7 +240,6 @@ fn call_behind_opening(
     }
 }
 
-/// How many calls the opening of an empty log of these measures makes.
 fn calls_of_opening(alloc: Global, measures: &Measures) -> Result<u64, JournalError> {
     match open(alloc, run_device(empty_disk(alloc, measures)?, None, None)) {
         Ok(opened) => Ok(opened.into_device().calls()),
@@ -256,7 +247,6 @@ fn calls_of_opening(alloc: Global, measures: &Measures) -> Result<u64, JournalEr
     }
 }
 
-/// What a disk holds in truth that took calls in another order, or lost one.
 fn real_of(device: StopAt<Reordered>) -> MemDevice {
     let is_stopped = device.is_stopped();
     let disk = device.into_inner();
@@ -267,7 +257,6 @@ fn real_of(device: StopAt<Reordered>) -> MemDevice {
     }
 }
 
-/// What operations left on such a disk.
 fn stopped(performed: Performed<WrongDevice>) -> Stopped {
     let Performed {
         device,

@@ -1,4 +1,4 @@
-//! Gates that hold a thread until another reaches a point, and give up after a limit of looks.
+//! Gates that hold a thread until another reaches a point, or give up.
 use std::sync::atomic::{AtomicU64, Ordering};
 use std::thread;
 use volume_service::{Gate, Point};
@@ -6,7 +6,7 @@ use volume_service::{Gate, Point};
 /// How often a gate looks before it gives up.
 const LOOKS: u32 = 2_000_000;
 
-/// Looks until the word is at least that. Returns whether it came to that.
+/// Looks until the word is at least that; whether it came to that.
 fn comes_to(word: &AtomicU64, least: u64) -> bool {
     for _ in 0..LOOKS {
         if word.load(Ordering::SeqCst) >= least {
@@ -49,7 +49,7 @@ impl Gate for Meeting {
     }
 }
 
-/// Holds the first write of the log until a handle has written a block meanwhile, and the second handle until that write is held.
+/// Holds the first write of the log until a handle has written a block, and the second handle until that write is held.
 #[derive(Drop)]
 pub(crate) struct Overtaking {
     opened: AtomicU64,

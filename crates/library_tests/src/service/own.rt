@@ -14,14 +14,14 @@ use std::test::Fail;
 use std::thread::Threads;
 use volume_service::{Client, Gate, OpenGate, Session, serve_clients};
 
-/// Writes a block and revokes the next, writes that through a second handle which it waits for, and reads the first block.
+/// Writes a block and revokes the next, writes that through a second handle and waits for it, and reads the first block.
 #[derive(Clone, Copy, Debug)]
 struct Looker {
     alloc: Global,
     block: u64,
 }
 
-/// A client's answer: its number, the most credits, the byte that the first write left, and the result of a read into a short buffer.
+/// The client's number, the most credits, the first write's byte, and the result of a read into a short buffer.
 type Told = (usize, u64, Option<u8>, Result<(), JournalError>);
 
 impl<J: JournalName, D: Device, R: Record, G: Gate> Client<J, D, R, G> for Looker {
@@ -61,7 +61,7 @@ impl<J: JournalName, D: Device, R: Record, G: Gate> Client<J, D, R, G> for Looke
     }
 }
 
-/// Runs two clients over an unnamed journal, and closes it. Returns their answers, and whether the close succeeded.
+/// Runs two clients, and closes the journal. Returns their answers, and whether the close succeeded.
 fn look<J: JournalName + Send + Sync, R: Threads + Wait + Sync>(
     rt: &R,
     alloc: Global,
@@ -78,7 +78,6 @@ fn look<J: JournalName + Send + Sync, R: Threads + Wait + Sync>(
     Ok((served?.answers, closed))
 }
 
-/// Two clients, of blocks of their own.
 fn lookers(alloc: Global) -> Result<Vec<Looker>, JournalError> {
     let mut lookers = Vec::new(alloc);
     lookers.push(Looker { alloc, block: 3 })?;

@@ -1,5 +1,5 @@
-//! Clients whose run may be refused one request for memory, whichever it is. In the gate none is: `bench/refused_memory.py` runs this test
-//! once for each request, and refuses it.
+//! Clients whose run may be refused any one request for memory. The gate refuses none: `bench/refused_memory.py` runs this test once for
+//! each request, and refuses it.
 use super::{LOG_BLOCKS, Summary, try_run, two_clients};
 use crate::logs::BLOCK_SIZE;
 use block_device::{Device, MemDevice};
@@ -17,7 +17,7 @@ fn want<R: Abort>(rt: &R, e: JournalError) {
     assert!(rt; e == JournalError::Memory || e == JournalError::Device);
 }
 
-/// A device in memory with a new log, made again if that is refused.
+/// A new log in memory, made again if that is refused.
 fn formatted<R: Abort>(rt: &R, alloc: Global) -> MemDevice {
     let mut device = MemDevice::new(alloc, BLOCK_SIZE, u64::from(LOG_BLOCKS), 64);
     if let Err(e) = recovery::format(&mut device, LOG_BLOCKS, &[7; 16], false) {
@@ -61,7 +61,6 @@ fn laid_again<R: Abort>(
     laid
 }
 
-/// The first byte of a home block.
 fn first_byte<R: Abort>(rt: &R, device: &mut MemDevice, block: u64) -> u8 {
     let mut bytes = [0; BLOCK_SIZE];
     let is_read = device.block_size() == BLOCK_SIZE
@@ -71,8 +70,8 @@ fn first_byte<R: Abort>(rt: &R, device: &mut MemDevice, block: u64) -> u8 {
     bytes[0]
 }
 
-/// Judges the outcome of two clients. Without a refusal each has two receipts. A client that was refused Memory ends alone: the other has
-/// its two. If the device failed, both may end with Aborted. Only entries hold credits, so no handle is open.
+/// Judges the clients. Without a refusal each has two receipts. One that is refused Memory ends alone: the other has its two. If the device
+/// failed, both may end with Aborted. Only entries hold credits, so no handle is open.
 fn judge<R: Abort>(rt: &R, summary: &Summary) {
     match summary.why {
         None => assert_eq!(rt; (summary.handles, summary.receipts), (4, 4)),
@@ -84,7 +83,7 @@ fn judge<R: Abort>(rt: &R, summary: &Summary) {
     assert!(rt; summary.tally.word == summary.tally.entries);
 }
 
-/// What the crash image opens to: the number after its last transaction, and the first bytes of blocks 3 and 4.
+/// From the crash image: the number after its last transaction, and the first bytes of blocks 3 and 4.
 fn left<R: Abort>(rt: &R, alloc: Global, device: MemDevice) -> (u64, u8, u8) {
     let opened = opened(rt, alloc, device.crash(&[]));
     let ends_at = opened.report().ends_at;
@@ -93,8 +92,8 @@ fn left<R: Abort>(rt: &R, alloc: Global, device: MemDevice) -> (u64, u8, u8) {
     (ends_at, third, first_byte(rt, &mut device, 4))
 }
 
-/// Judges the crash image. It opens to each transaction of which a client has a receipt. The last writes of a client without a refusal are
-/// there: of the first one 2 in block 3; of the second 3 in block 4 and 4 in block 3.
+/// Judges the crash image. It opens to each transaction with a receipt. The last writes of a client without a refusal are there: of the
+/// first 2 in block 3; of the second 3 in block 4 and 4 in block 3.
 fn judge_left<R: Abort>(rt: &R, alloc: Global, summary: &Summary, device: MemDevice) {
     let (ends_at, third, fourth) = left(rt, alloc, device);
     let acknowledged = summary.acknowledged.unwrap_or(Tid(0));

@@ -1,5 +1,5 @@
-//! Tasks over a device in memory: what a flush answers and leaves, alone and beside others; and handles that nobody waits for, which are
-//! committed before anything is refused.
+//! Tasks over a device in memory: what a flush answers and leaves, alone and beside others; and the commit of handles that nobody waits
+//! for.
 use super::LOG_BLOCKS;
 use crate::bytes::expect;
 use crate::logs::{formatted, laid_on};
@@ -32,7 +32,7 @@ enum Job {
     Flushes,
     /// Stops handles for half of the credits, and waits for none.
     Streams,
-    /// Flushes after every fifth handle, and checks that its own are then committed.
+    /// Flushes after every fifth handle, and checks that its own are committed.
     Beside(u64),
 }
 
@@ -45,7 +45,6 @@ struct Worker {
 /// A task's answer: numbers, and whether all is as expected.
 type Told = Result<([Tid; 3], bool), JournalError>;
 
-/// Writes a block through a handle that nobody waits for.
 fn write_one<J: JournalName, D: Device, R: Record, G: Gate, W: Wait>(
     rt: &W,
     alloc: Global,
@@ -60,8 +59,7 @@ fn write_one<J: JournalName, D: Device, R: Record, G: Gate, W: Wait>(
     Ok(ticket)
 }
 
-/// Flushes an empty journal, flushes after three handles, and flushes again. Returns the three numbers, and whether all three tickets then
-/// had their receipts without a wait.
+/// Returns the three numbers, and whether all three tickets then had their receipts without a wait.
 fn flush_thrice<J: JournalName, D: Device, R: Record, G: Gate, W: Wait>(
     rt: &W,
     alloc: Global,
@@ -88,7 +86,7 @@ fn flush_thrice<J: JournalName, D: Device, R: Record, G: Gate, W: Wait>(
     ))
 }
 
-/// Stops handles for half of the credits, and waits for none. Returns whether the first one's transaction was committed all the same.
+/// Returns whether the first one's transaction was committed all the same.
 fn stream<J: JournalName, D: Device, R: Record, G: Gate, W: Wait>(
     rt: &W,
     alloc: Global,
@@ -131,7 +129,7 @@ fn five_and_flush<J: JournalName, D: Device, R: Record, G: Gate, W: Wait>(
     Ok(all)
 }
 
-/// Does so again and again. Returns whether all of its own handles were committed after each flush.
+/// Returns whether its own handles were committed after each flush.
 fn flush_beside<J: JournalName, D: Device, R: Record, G: Gate, W: Wait>(
     rt: &W,
     alloc: Global,
@@ -161,7 +159,7 @@ impl<D: Device, R: Record, G: Gate> Task<D, R, G> for Worker {
     }
 }
 
-/// Runs tasks over a new log in memory. Returns their answers, how many transactions are committed, and whether the journal was closed.
+/// Runs tasks over a new log in memory. Returns their answers, the committed transactions, and whether the journal was closed.
 fn run<R: Threads + Wait + Sync>(
     rt: &R,
     alloc: Global,

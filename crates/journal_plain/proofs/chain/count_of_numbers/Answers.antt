@@ -2,7 +2,7 @@ use Rattle.std.proofs.Common.{◌≡◌, ◌*◌, ◌-◌, ◌%◌, arith, ◌�
 use Rattle.std.proofs.Math.Nat.{mul-mod_left}
 use Rattle.journal_plain.proofs.chain.count_of_numbers.Goals as goal
 
--- what is no multiple of a number's bytes is the size of no numbers
+-- a size that is no multiple of a number's bytes is that of no numbers
 pub returns-else-bytes-measures-eq0-clause-none : goal.returns-else-bytes-measures-eq0-clause-none
 returns-else-bytes-measures-eq0-clause-none c = λ n used fits.
     let size = c.args.measures.number_bytes in

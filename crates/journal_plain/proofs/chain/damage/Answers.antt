@@ -5,7 +5,7 @@ use Rattle.log_model.specs.Chain.{IsMalformed}
 use Rattle.log_model.proofs.ReadingFronts.{malformed_is_damaged, no_damage_in_none, no_damage_in_good}
 use Rattle.journal_plain.proofs.chain.damage.Goals as goal
 
--- nothing stands behind the chain and the pieces
+-- no block follows the chain and the pieces
 pub returns-in_default : goal.returns-in_default
 returns-in_default c =
     no_damage_in_none _ _ _ _ _ _ _ c.in_ok-next.ensures.begin _ c.split_at.ensures.back c.in_ok-next.ensures.chain _ _

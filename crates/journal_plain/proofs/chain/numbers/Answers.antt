@@ -8,7 +8,7 @@ use Rattle.log_model.proofs.ReadingNumbers.{revoke_block_of, numbers_of_block}
 use Rattle.journal_plain.proofs.ReadingFound.{found_same}
 use Rattle.journal_plain.proofs.chain.numbers.Goals as goal
 
--- with the header and a field that fits, the numbers behind them make the block a revoke block
+-- with the header and a field that fits, the numbers make the block a revoke block
 pub returns : goal.returns
 returns c =
     let l : Layout = layout_with c.args.measures.block_size c.args.measures.number_bytes in

@@ -6,7 +6,7 @@ use Rattle.log_model.specs.Descriptor.{IsDescriptor}
 use Rattle.log_model.proofs.ReadingFronts.{copies_begin, copies_missing}
 use Rattle.journal_plain.proofs.chain.piece.Goals as goal
 
--- fewer blocks stand behind the descriptor than it has tags
+-- fewer blocks follow the descriptor than it has tags
 pub returns-then-behind-length : goal.returns-then-behind-length
 returns-then-behind-length c =
     let l : Layout = layout_with c.args.measures.block_size c.args.measures.number_bytes in

@@ -9,7 +9,7 @@ loop-pieces-preserved c =
     (pieces_more _ _ _ _ _ _ c.loop-pieces.invariant _ c.split_at.ensures.back c.in-Some.piece c.in-Some.size
     (rw c.in-Some.is at c.in_ok-piece.ensures))
 
--- its blocks are among those that are left
+-- its blocks are among those that remain
 pub overflow_add-taken : goal.overflow_add-taken
 overflow_add-taken c =
     let left = c.split_at.ensures.back_len in
@@ -17,7 +17,7 @@ overflow_add-taken c =
     let within = (piece_within _ _ _ _ _ _ (rw c.in-Some.is at c.in_ok-piece.ensures)).1 in
     omega (arith, left, before, within)
 
--- so fewer are left
+-- so fewer remain
 pub loop-pieces-smaller : goal.loop-pieces-smaller
 loop-pieces-smaller c =
     let left = c.split_at.ensures.back_len in

@@ -8,6 +8,6 @@ invariant-loop-pieces l =
     PiecesBegin (layout_with l.measures.block_size l.measures.number_bytes) l.measures.count l.sequence l.blocks
     l.pieces l.taken
 
--- the blocks that are left
+-- the blocks that remain
 abbrev pub decreases-loop-pieces : goal.decreases-loop-pieces
 decreases-loop-pieces l = length l.blocks - l.taken

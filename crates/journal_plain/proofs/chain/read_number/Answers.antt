@@ -5,7 +5,7 @@ use Rattle.journal_plain.proofs.ReadingBytes.{number_at_more, below_next_power, 
 use Rattle.journal_plain.proofs.chain.read_number.Goals as goal
 use Rattle.journal_plain.proofs.chain.read_number.Goals.{After-from}
 
--- the byte that is read is the one of the list, or 0 behind its end
+-- the byte that is read is the list's, or 0 after its end
 byte_is : (c : After-from) → c.from.result ≡ get_or c.args.bytes.now (c.args.at + c.loop-i.i) 0
 byte_is c = grind (arith, common_steps, gets)
 

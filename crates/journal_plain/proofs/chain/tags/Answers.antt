@@ -16,7 +16,7 @@ returns-then-block-lt-HEADER_BYTES c = λ tags is.
     let short : drop 12 c.args.block.now ≡ [] = drop_all 12 c.args.block.now (omega arith) in
     no_tags_in_none l tags (subst (λ xs. BeginsWithTags l xs tags) short is.spelled)
 
--- with the header, the tags behind it make the block a descriptor
+-- with the header, the tags after it make the block a descriptor
 pub returns : goal.returns
 returns c =
     let l : Layout = layout_with c.args.measures.block_size c.args.measures.number_bytes in

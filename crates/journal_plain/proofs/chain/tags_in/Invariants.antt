@@ -8,6 +8,6 @@ abbrev pub invariant-loop-at : goal.invariant-loop-at
 invariant-loop-at l =
     TagsSoFar (layout_with l.measures.block_size l.measures.number_bytes) l.measures.count l.bytes l.at l.tags
 
--- the bytes that are left
+-- the bytes that remain
 abbrev pub decreases-loop-at : goal.decreases-loop-at
 decreases-loop-at l = length l.bytes + 1 - l.at

@@ -4,13 +4,13 @@ use Rattle.log_model.specs.Text.{IsCommitBlock}
 use Rattle.log_model.proofs.ReadingFronts.{text_begins, no_text_in_none, no_text_without_commit}
 use Rattle.journal_plain.proofs.chain.text.Goals as goal
 
--- nothing stands behind the pieces
+-- no block follows the pieces
 pub returns-in_default-clause-begins : goal.returns-in_default-clause-begins
 returns-in_default-clause-begins c =
     no_text_in_none _ _ _ _ _ _ c.in_ok-pieces.ensures.begin _ c.split_at.ensures.back c.args.measures.some
     c.in_ok-pieces.ensures.last c.in_default.ensures.cases
 
--- no commit block stands behind the pieces
+-- no commit block follows the pieces
 pub returns-then-not-has_header-clause-begins : goal.returns-then-not-has_header-clause-begins
 returns-then-not-has_header-clause-begins c =
     no_text_without_commit _ _ _ _ _ _ c.in_ok-pieces.ensures.begin _ c.split_at.ensures.back c.args.measures.some
@@ -18,7 +18,7 @@ returns-then-not-has_header-clause-begins c =
     (λ commit. iff_false c.has_header.ensures.value c.if-not-has_header.true
     (subst (IsCommitBlock c.args.sequence) (sym c.bytes.ensures) commit))
 
--- the pieces, and the commit block behind them
+-- the pieces, followed by the commit block
 pub returns-clause-begins : goal.returns-clause-begins
 returns-clause-begins c =
     let copy : c.in-Some.block.now ≡ c.in_ok-commit.commit = sym (c.in_ok-commit.ensures ∙ c.bytes-2.ensures) in

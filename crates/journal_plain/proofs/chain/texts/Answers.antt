@@ -15,7 +15,7 @@ loop-texts-preserved c =
     (texts_more _ _ _ _ _ _ _ c.loop-texts.invariant _ c.split_at.ensures.back c.in-Some.text c.in-Some.size
     (rw c.in-Some.is at c.in_ok-text.ensures.begins))
 
--- its blocks are among those that are left
+-- its blocks are among those that remain
 pub overflow_add-taken : goal.overflow_add-taken
 overflow_add-taken c =
     let left = c.split_at.ensures.back_len in
@@ -23,7 +23,7 @@ overflow_add-taken c =
     let within = (text_within _ _ _ _ _ _ (rw c.in-Some.is at c.in_ok-text.ensures.begins)).1 in
     omega (arith, left, before, within)
 
--- so fewer are left
+-- so fewer remain
 pub loop-texts-smaller : goal.loop-texts-smaller
 loop-texts-smaller c =
     let left = c.split_at.ensures.back_len in

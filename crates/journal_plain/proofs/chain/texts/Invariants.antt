@@ -8,6 +8,6 @@ invariant-loop-texts l =
     TextsBegin (layout_with l.measures.block_size l.measures.number_bytes) l.measures.count l.sequence l.blocks
     l.texts l.next l.taken
 
--- the blocks that are left
+-- the blocks that remain
 abbrev pub decreases-loop-texts : goal.decreases-loop-texts
 decreases-loop-texts l = length l.blocks - l.taken

@@ -3,7 +3,7 @@ use Rattle.std.proofs.lemmas.Bool.{iff_false}
 use Rattle.journal_plain.proofs.Rounding.{some_copies}
 use Rattle.journal_plain.proofs.room.capacity.Goals as goal
 
--- none at all takes at most a quarter
+-- no copies take at most a quarter
 pub overflow_sub-copies : goal.overflow_sub-copies
 overflow_sub-copies c =
     some_copies c.args.ring c.tags_of-tags.result c.loop-copies.copies c.requires.ring (subst (λ n. 0 < n) (sym c.tags_of-tags.ensures) c.requires.tags)

@@ -36,6 +36,6 @@ returns-clause-refused g c =
     })
     c.close.ensures.refused
 
--- nothing was shown
+-- nothing was acknowledged
 pub returns-clause-shown : goal.returns-clause-shown
 returns-clause-shown g c = c.close.ensures.shown ∙ c.into_stopped.ensures.left.shown_is

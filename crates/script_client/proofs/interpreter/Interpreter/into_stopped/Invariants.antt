@@ -3,7 +3,7 @@ use Rattle.script_client.specs.Ended.{StopsHandles}
 use Rattle.script_client.specs.Shown.{IsLeftOf}
 use Rattle.script_client.proofs.interpreter.Interpreter.into_stopped.Given as goal
 
--- handles were stopped; operations, device, sealed and running transactions, and what was shown are the same
+-- handles were stopped; operations, device, sealed and running transactions, and what was acknowledged are the same
 abbrev pub invariant-loop-slot : goal.invariant-loop-slot
 invariant-loop-slot g l = record {
   operations : l.client.operations ≡ l.fn.self.client.operations;
