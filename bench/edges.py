@@ -66,7 +66,8 @@ def main(words):
         names = sorted(os.listdir(folder))
         for command, shape in COMMANDS.items():
             places = [word for word in shape if word in files]
-            cases = [(place, path) for place in places for path in odd]
+            # a script is read from a pipe too, and waits for whoever writes it
+            cases = [(place, path) for place in places for path in odd if not (place == "SCRIPT" and path.is_fifo())]
             cases += [(place, files[other]) for place in places for other in places if place > other]  # one file named twice
             cases += [("HOME", folder / "no_folder" / "home")] if command == "format" else []
             for place, path in cases:
