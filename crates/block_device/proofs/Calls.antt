@@ -1,4 +1,4 @@
--- What one more call changes: the newest write of a block, the counters, and what a block reads.
+-- How one more call changes a block's newest write, the counters, and what it reads.
 use Rattle.std.proofs.Common.{◌≡◌, ℕ, suc, subst, inl, inr, ⊎_elim, take, drop, set, ◌+◌, ◌<◌, Bool, true, false, List, [], ◌∷◌, ◌++◌, length, get_or, Option, Some, None, refl, sym, ◌∙◌, ap, append_assoc, arith, add-one, zero-add, rules}
 use Rattle.std.specs.Prelude.{if◌then◌else◌, ◌&&◌, ◌||◌, ◌==◌, option_map, unwrap_or, replicate, map, IsSome, is_some, ⊤}
 use Rattle.std.specs.List.{fold, AllByRecursion}
@@ -21,7 +21,7 @@ or_else_assoc : (a b c : Option ℕ) → or_else a (or_else b c) ≡ or_else (or
 or_else_assoc None b c = refl
 or_else_assoc (Some i) b c = refl
 
--- one more call: where it wrote the block it is the newest, else what was newest stays
+-- one more call is a block's newest write, if it wrote the block
 pub newest_from-push : (a : Area) (n k : ℕ) (cs : List Call) (c : Call) → newest_from a n k (cs ++ c ∷ []) ≡ or_else (if wrote_block a n c then Some (k + length cs) else None) (newest_from a n k cs)
 newest_from-push a n k [] c = elim (wrote_block a n c) as (λ b. (if b then Some k else None) ≡ or_else (if b then Some (k + 0) else None) None) [ true ↦ ap Some (omega arith) | false ↦ refl ]
 newest_from-push a n k (x ∷ cs) c =
@@ -31,7 +31,7 @@ newest_from-push a n k (x ∷ cs) c =
     ∙ sym (or_else_assoc (if wrote_block a n c then Some (suc k + length cs) else None) (newest_from a n (suc k) cs) here)
     ∙ ap (λ i. or_else (if wrote_block a n c then Some i else None) (or_else (newest_from a n (suc k) cs) here)) step
 
--- the bytes that the last write of a block among these calls put there
+-- the bytes of a block's last write among these calls
 abbrev pub one_of : Option (List ℕ) → Option (List ℕ) → Option (List ℕ)
 one_of None other = other
 one_of (Some v) other = Some v
@@ -44,7 +44,7 @@ abbrev pub last_bytes : Area → ℕ → List Call → Option (List ℕ)
 last_bytes a n [] = None
 last_bytes a n (c ∷ cs) = one_of (last_bytes a n cs) (bytes_by a n c)
 
--- what a changed cell reads
+-- the reads of a changed cell
 pick_reads : (b : Bool) (v : List ℕ) (others : List (List ℕ)) (c : Cell) → (if b then record { reads = v; others = others } else c).reads ≡ unwrap_or (if b then Some v else None) c.reads
 pick_reads true v others c = refl
 pick_reads false v others c = refl
@@ -58,14 +58,14 @@ one_of_last : (o p : Option (List ℕ)) (v : List ℕ) → unwrap_or o (unwrap_o
 one_of_last None p v = refl
 one_of_last (Some u) p v = refl
 
--- a write that a crash left settles its block, and a new one is written over it
+-- a write left by a crash settles its block; a new one is written over it
 abbrev pub left_disk : Moments → Write → Moments
 left_disk m w = record { disk = with_cell m.disk w.area w.block (record { reads = w.bytes; others = [] }); past = m.past }
 
 abbrev pub new_disk : Moments → Write → Moments
 new_disk m w = record { disk = written m.disk w.area w.block w.bytes; past = m.disk ∷ m.past }
 
--- one call changes what a block reads to the bytes that it wrote there, if it did
+-- a call changes what a block reads to the bytes that it wrote
 reads-after_call : (m : Moments) (c : Call) (a : Area) (n : ℕ) → ((after_call m c).disk a n).reads ≡ unwrap_or (bytes_by a n c) (m.disk a n).reads
 reads-after_call m (Wrote w) a n =
     let at : Bool = same_area a w.area && (n == w.block) in
@@ -77,7 +77,7 @@ reads-after_call m (Wrote w) a n =
     ]
 reads-after_call m (Flushed area) a n = flush_reads (same_area a area) (m.disk a n)
 
--- what a block reads after calls: the bytes of its last write, or what it read before
+-- a block reads its last write, or what it read before
 pub reads-fold : (m : Moments) (cs : List Call) (a : Area) (n : ℕ) → ((fold after_call m cs).disk a n).reads ≡ unwrap_or (last_bytes a n cs) (m.disk a n).reads
 reads-fold m [] a n = refl
 reads-fold m (c ∷ cs) a n =
@@ -85,8 +85,7 @@ reads-fold m (c ∷ cs) a n =
     ∙ ap (unwrap_or (last_bytes a n cs)) (reads-after_call m c a n)
     ∙ one_of_last (last_bytes a n cs) (bytes_by a n c) (m.disk a n).reads
 
--- the place of the newest write agrees with its bytes: both are there or neither is, and the call at the place, where
--- the first call has the index k, is a write of those bytes
+-- a newest write has a place exactly if it has bytes, those of the call there (the first has index k)
 abbrev pub AgreesWith : List Call → ℕ → Option ℕ → Option (List ℕ) → Type 0
 AgreesWith cs k None None = ⊤
 AgreesWith cs k None (Some v) = ⊥
@@ -94,14 +93,14 @@ AgreesWith cs k (Some i) None = ⊥
 AgreesWith cs k (Some i) (Some v) =
     (w : Write) × (place : ℕ) × (i ≡ k + place) × (place < length cs) × ((d : Call) → get_or cs place d ≡ Wrote w) × (v ≡ w.bytes)
 
--- a first call alone
+-- this holds of a first call alone
 first_agrees : (a : Area) (n k : ℕ) (c : Call) (cs : List Call) → AgreesWith (c ∷ cs) k (if wrote_block a n c then Some k else None) (bytes_by a n c)
 first_agrees a n k (Flushed area) cs = tt
 first_agrees a n k (Wrote w) cs =
     elim (same_area a w.area && (n == w.block)) as (λ b. AgreesWith (Wrote w ∷ cs) k (if b then Some k else None) (if b then Some w.bytes else None))
     [ true ↦ (w, 0, omega arith, omega arith, (λ d. refl), refl) | false ↦ tt ]
 
--- what holds behind a first call holds with it
+-- it holds with a first call, if it holds of the later ones
 later_agrees : (a : Area) (n k : ℕ) (c : Call) (cs : List Call) (o : Option ℕ) (p : Option (List ℕ)) → AgreesWith cs (suc k) o p → AgreesWith (c ∷ cs) k (or_else o (if wrote_block a n c then Some k else None)) (one_of p (bytes_by a n c))
 later_agrees a n k c cs None None h = first_agrees a n k c cs
 later_agrees a n k c cs None (Some v) h = absurd h
@@ -112,7 +111,7 @@ pub newest_agrees : (a : Area) (n k : ℕ) (cs : List Call) → AgreesWith cs k 
 newest_agrees a n k [] = tt
 newest_agrees a n k (c ∷ cs) = later_agrees a n k c cs (newest_from a n (suc k) cs) (last_bytes a n cs) (newest_agrees a n (suc k) cs)
 
--- what is noted of a block, forgotten where some call wrote it
+-- a note, forgotten if some call wrote the block
 abbrev pub forgotten : Bool → Option (Option ℕ) → Option (Option ℕ)
 forgotten true old = option_map (λ _. None) old
 forgotten false old = old
@@ -144,11 +143,11 @@ forgets-push cs w old mid new h note a n =
     ∙ ap (λ b. forgotten b (noted_in old a n)) (sym (some_or_else here (length cs) (newest a n cs)) ∙ ap is_some (sym (newest_from-push a n 0 cs (Wrote w) ∙ ap (λ i. or_else (if here then Some i else None) (newest a n cs)) (zero-add (length cs)))))
     ∙ sym (is_forgotten (is_some (newest a n (cs ++ Wrote w ∷ []))) (noted_in old a n))
 
--- a flush is no write
+-- a flush is forgotten as no write
 pub forgets-flush : (cs : List Call) (area : Area) (old mid : MemIndex) → Forgets cs old mid → Forgets (cs ++ Flushed area ∷ []) old mid
 forgets-flush cs area old mid h a n = rw newest_from-push (h a n)
 
--- what is noted with one more write
+-- the note after one more write
 renote_twice : (b : Bool) (i : ℕ) (o : Option ℕ) (old : Option (Option ℕ)) → (if b then option_map (λ _. Some i) (renoted o old) else renoted o old) ≡ renoted (or_else (if b then Some i else None) o) old
 renote_twice true i None old = refl
 renote_twice true i (Some j) None = refl
@@ -200,7 +199,7 @@ module _ (now start : List Call) (i : ℕ) (item c : Call) (low : i < length sta
       ∙ set_at front (get_or start i item) (drop (i + 1) start) (settled c) i front_length
       ∙ sym settled_next
 
--- where the newest write of a block stands, and what it wrote
+-- the place of a block's newest write, and its bytes
 pub record NewestWrite (a : Area) (n i : ℕ) (cs : List Call) : Type 0 where
   pub write : Write
   pub low : i < length cs
@@ -222,7 +221,7 @@ no_bytes : (cs : List Call) (o : Option (List ℕ)) → AgreesWith cs 0 None o �
 no_bytes cs None h = refl
 no_bytes cs (Some v) h = absurd h
 
--- a block that was never written has no bytes of its own
+-- an unwritten block has no bytes of its own
 pub never_written : (a : Area) (n : ℕ) (cs : List Call) → newest a n cs ≡ None → last_bytes a n cs ≡ None
 never_written a n cs e = no_bytes cs (last_bytes a n cs) (subst (λ o. AgreesWith cs 0 o (last_bytes a n cs)) e (newest_agrees a n 0 cs))
 
@@ -236,15 +235,15 @@ reads_written size cs a n v e = reads_last size cs a n ∙ ap (λ (o : Option (L
 pub reads_blank : (size : ℕ) (cs : List Call) (a : Area) (n : ℕ) → last_bytes a n cs ≡ None → ((after_calls size cs).disk a n).reads ≡ replicate size 0
 reads_blank size cs a n e = reads_last size cs a n ∙ ap (λ (o : Option (List ℕ)). unwrap_or o (replicate size 0)) e
 
--- each write fills a block, so that of any place does
+-- each write at any place fills a block
 pub fills_at : (size : ℕ) (cs : List Call) (i : ℕ) (w : Write) → AllByRecursion (FillsBlock size) cs → i < length cs → ((d : Call) → get_or cs i d ≡ Wrote w) → length w.bytes ≡ size
 fills_at size cs i w all low stands = subst (FillsBlock size) (stands (Wrote w)) (All-from_recursion (FillsBlock size) cs all i (Wrote w) low)
 
--- what the index of a device in memory names is the newest write
+-- the index of a device in memory names the newest write
 pub indexed_write : (d : Inside) → IsIndexed d → (a : Area) (n i : ℕ) → newest_in d.index a n ≡ Some i → NewestWrite a n i d.calls.items
 indexed_write d inv a n i e = newest_write a n i d.calls.items (sym (inv.indexed a n) ∙ e)
 
--- the call that was read there is that write
+-- the call read there is that write
 pub same_write : (a : Area) (n i : ℕ) (cs : List Call) (found : NewestWrite a n i cs) (item : Call) (w : Write) → item ≡ get_or cs i item → item ≡ Wrote w → found.write ≡ w
 same_write a n i cs found item w at is = let e : Wrote found.write ≡ Wrote w = sym (found.stands item) ∙ sym at ∙ is in cc
 
@@ -252,7 +251,7 @@ same_write a n i cs found item w at is = let e : Wrote found.write ≡ Wrote w =
 pub writes_of-push : (cs : List Call) (c : Call) → writes_of (cs ++ c ∷ []) ≡ counted (writes_of cs) c
 writes_of-push cs c = fold_push counted 0 cs c
 
--- the count that the number of the last flushed write goes by is that of the writes
+-- the count in `flushed_after` is that of the writes
 pub counts_agree : (a : Area) (cs : List Call) (p : ℕ × ℕ) → (fold (flushed_after a) p cs).0 ≡ fold counted p.0 cs
 counts_agree a [] p = refl
 counts_agree a (Wrote w ∷ cs) p = counts_agree a cs (counted p.0 (Wrote w), p.1)
@@ -271,7 +270,7 @@ pub sizes-push : (size : ℕ) (cs : List Call) (c : Call) → AllByRecursion (Fi
 sizes-push size [] c all fills = (fills, tt)
 sizes-push size (x ∷ cs) c all fills = (all.0, sizes-push size cs c all.1 fills)
 
--- a write that a crash left is not counted, and each other one is
+-- a write left by a crash is not counted; each other one is
 pub counted_left : (n : ℕ) (w : Write) → w.number ≡ 0 → counted n (Wrote w) ≡ n
 counted_left n w e = ap (λ k. if k == 0 then n else n + 1) e
 
@@ -306,7 +305,7 @@ numbered-flush (Wrote x ∷ cs) a h = ⊎_elim
     (λ new. inr (numbered_from-flush 0 (Wrote x ∷ cs) a new)) h
 numbered-flush (Flushed b ∷ cs) a h = numbered_from-flush 0 cs a h
 
--- one more flush leaves the index as it is, and moves the counter of its area
+-- a flush leaves the index, and moves its area's counter
 pub indexes-flush : (size : ℕ) (index : MemIndex) (calls : List Call) (w l h : ℕ) (area : Area) → Indexes size index calls w l h →
     Indexes size index (calls ++ Flushed area ∷ []) w (if same_area Log area then w else l) (if same_area Home area then w else h)
 indexes-flush size index calls w l h area inv = record {
@@ -323,7 +322,7 @@ indexes-flush size index calls w l h area inv = record {
     flushed_count true w l calls m e f = e
     flushed_count false w l calls m e f = f
 
--- what is noted after one more write
+-- the note after one more write
 hit_noted : (b : Bool) (i : ℕ) (old : Option (Option ℕ)) → unwrap_or (if b then Some (Some i) else old) None ≡ or_else (if b then Some i else None) (unwrap_or old None)
 hit_noted true i old = refl
 hit_noted false i old = refl

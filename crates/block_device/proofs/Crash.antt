@@ -1,4 +1,4 @@
--- What a crash leaves of a device in memory: of each block its last surviving write.
+-- After a crash each block has its last surviving write.
 use Rattle.std.proofs.Common.{◌≡◌, ◌⊎◌, ℕ, suc, subst, inl, inr, ⊎_elim, ◌+◌, ◌<◌, ◌≤◌, Bool, true, false, List, [], ◌∷◌, ◌++◌, Option, Some, None, refl, sym, ◌∙◌, ap, append_assoc, arith}
 use Rattle.std.specs.Prelude.{if◌then◌else◌, ◌&&◌, ◌||◌, ◌==◌, nat_le, option_map, unwrap_or, replicate, map, filter, IsSome, is_some, ⊤}
 use Rattle.std.specs.List.{fold, list_any, AllByRecursion}
@@ -17,7 +17,7 @@ use Rattle.block_device.specs.declared.memory.Call.TheVariants.{Wrote, Flushed}
 use Rattle.std.proofs.lemmas.Bool.{false≢true, eqb-true, le-leb, lt-leb}
 use Rattle.block_device.proofs.Calls.{left_disk, new_disk, last_bytes, one_of, not_zero, counted_left, counted_new, counts_agree, reads_last, flushed_number-flush, flushed_number-write}
 
--- what holds of no calls, and of one more call where it holds of the calls before, holds of all
+-- induction over calls, from the last one
 module _ (P : List Call → Type 0) (step : (xs : List Call) (x : Call) → P xs → P (xs ++ x ∷ [])) where
   grows : (xs ys : List Call) → P xs → P (xs ++ ys)
   grows xs [] p = subst P (sym (append-nil xs)) p
@@ -34,7 +34,7 @@ survivors_left keep l h (Wrote w ∷ cs) =
     elim (survives_crash keep l h (Wrote w)) as (λ b. AllByRecursion IsLeft (map settled (if b then Wrote w ∷ filter (survives_crash keep l h) cs else filter (survives_crash keep l h) cs)))
     [ true ↦ (refl, survivors_left keep l h cs) | false ↦ survivors_left keep l h cs ]
 
--- which of them a write makes is told by its number
+-- a write with number 0 is one that a crash left
 after_left : (m : Moments) (w : Write) → w.number ≡ 0 → after_call m (Wrote w) ≡ left_disk m w
 after_left m w e = ap (λ k. if k == 0 then left_disk m w else new_disk m w) e
 
@@ -47,25 +47,25 @@ left_past [] m all = refl
 left_past (Wrote w ∷ cs) m all = left_past cs (after_call m (Wrote w)) all.1 ∙ ap (λ x. x.past) (after_left m w all.0)
 left_past (Flushed a ∷ cs) m all = absurd all.0
 
--- no count
+-- they add no count
 pub left_count : (cs : List Call) (n : ℕ) → AllByRecursion IsLeft cs → fold counted n cs ≡ n
 left_count [] n all = refl
 left_count (Wrote w ∷ cs) n all = left_count cs (counted n (Wrote w)) all.1 ∙ counted_left n w all.0
 left_count (Flushed a ∷ cs) n all = absurd all.0
 
--- no flush
+-- they add no flush
 pub left_flushed : (a : Area) (cs : List Call) (p : ℕ × ℕ) → AllByRecursion IsLeft cs → (fold (flushed_after a) p cs).1 ≡ p.1
 left_flushed a [] p all = refl
 left_flushed a (Wrote w ∷ cs) p all = left_flushed a cs (counted p.0 (Wrote w), p.1) all.1
 left_flushed a (Flushed area ∷ cs) p all = absurd all.0
 
--- and they are in order
+-- they are in order
 pub left_numbered : (cs : List Call) → AllByRecursion IsLeft cs → IsNumbered cs
 left_numbered [] all = tt
 left_numbered (Wrote w ∷ cs) all = inl (all.0, left_numbered cs all.1)
 left_numbered (Flushed a ∷ cs) all = absurd all.0
 
--- a block of which a crash left what is there holds nothing else
+-- a block that a crash left holds nothing else
 settled_cell : (b : Bool) (v : List ℕ) (c : Cell) → c.others ≡ [] → (if b then record { reads = v; others = [] } else c).others ≡ []
 settled_cell true v c e = refl
 settled_cell false v c e = e
@@ -119,7 +119,7 @@ survivors_wrote a n keep l h (Wrote w ∷ cs) e =
       | false ↦ (λ f. or_later (any_wrote a n cs) (wrote_block a n (Wrote w)) (survivors_wrote a n keep l h cs f))
     ]) e
 
--- the bytes of the last write of a block that survives, where its area was flushed up to the write with this number
+-- the last surviving write of a block, if its area was flushed up to this number
 abbrev pub surviving_by : List ℕ → ℕ → Area → ℕ → Call → Option (List ℕ)
 surviving_by keep f a n (Wrote w) = if same_area a w.area && (n == w.block) then (if nat_le w.number f || is_kept keep w.number then Some w.bytes else None) else None
 surviving_by keep f a n (Flushed area) = None
@@ -128,7 +128,7 @@ abbrev pub last_surviving : List ℕ → ℕ → Area → ℕ → List Call → 
 last_surviving keep f a n [] = None
 last_surviving keep f a n (c ∷ cs) = one_of (last_surviving keep f a n cs) (surviving_by keep f a n c)
 
--- within one area the flush that counts is that area's
+-- within one area, that area's flush counts
 same_flush : (l h : ℕ) (a b : Area) (c : Bool) → (same_area a b && c) ≡ true → flushed_in l h b ≡ flushed_in l h a
 same_flush l h Log Log c e = refl
 same_flush l h Home Home c e = refl
@@ -169,7 +169,7 @@ survivors_last keep l h a n (Wrote w ∷ cs) =
     last_kept true w cs = refl
     last_kept false w cs = refl
 
--- one more call is the last that survives, if it survives
+-- one more call is the last to survive, if it survives
 one_of_assoc : (a b c : Option (List ℕ)) → one_of a (one_of b c) ≡ one_of (one_of a b) c
 one_of_assoc None b c = refl
 one_of_assoc (Some v) b c = refl
@@ -184,7 +184,7 @@ last_surviving-push keep f a n (x ∷ cs) c =
     ap (λ o. one_of o (surviving_by keep f a n x)) (last_surviving-push keep f a n cs c)
     ∙ sym (one_of_assoc (surviving_by keep f a n c) (last_surviving keep f a n cs) (surviving_by keep f a n x))
 
--- the numbers of calls in order, without the last call
+-- calls without the last one stay in order
 numbered_from-front : (k : ℕ) (cs : List Call) (c : Call) → NumberedFrom k (cs ++ c ∷ []) → NumberedFrom k cs
 numbered_from-front k [] c h = tt
 numbered_from-front k (Wrote w ∷ cs) c h = (h.0, numbered_from-front (suc k) cs c h.1)
@@ -246,7 +246,7 @@ flushed_le a (Flushed area ∷ cs) p h = flushed_le a cs (p.0, if same_area a ar
 flushed_at_most : (a : Area) (cs : List Call) → flushed_number a cs ≤ writes_of cs
 flushed_at_most a cs = let le = flushed_le a cs (0, 0) (omega arith) in let e = counts_agree a cs (0, 0) in omega arith
 
--- where each write was flushed, each survives
+-- if each write was flushed, each survives
 all_survive : (keep : List ℕ) (m : ℕ) (a : Area) (n : ℕ) (cs : List Call) → AllByRecursion (NumberAtMost m) cs → last_surviving keep m a n cs ≡ last_bytes a n cs
 all_survive keep m a n [] all = refl
 all_survive keep m a n (Wrote w ∷ cs) all =
@@ -254,14 +254,14 @@ all_survive keep m a n (Wrote w ∷ cs) all =
     ∙ ap (λ b. one_of (last_bytes a n cs) (if same_area a w.area && (n == w.block) then (if b || is_kept keep w.number then Some w.bytes else None) else None)) (le-leb w.number m all.0)
 all_survive keep m a n (Flushed area ∷ cs) all = ap (λ o. one_of o None) (all_survive keep m a n cs all.1)
 
--- the block that was asked for is the one that was written
+-- the block asked for is the block written
 same_place : (a b : Area) (n m : ℕ) → (same_area a b && (n == m)) ≡ true → (a ≡ b) × (n ≡ m)
 same_place Log Log n m e = (refl, eqb-true n m e)
 same_place Home Home n m e = (refl, eqb-true n m e)
 same_place Log Home n m e = absurd (false≢true e)
 same_place Home Log n m e = absurd (false≢true e)
 
--- what a crash that keeps these writes leaves of a block, by its cell and its unflushed writes
+-- what a crash leaves of a block, by its cell and unflushed writes
 abbrev pub left_of_cell : List ℕ → Cell → List (ℕ × List ℕ) → List ℕ
 left_of_cell keep cell ws = kept_value keep (durable cell) ws
 
@@ -272,7 +272,7 @@ left_step : (keep : List ℕ) (here : Bool) (v z : List ℕ) (rest : Option (Lis
 left_step keep true v z rest cell ws h = refl
 left_step keep false v z rest cell ws h = h
 
--- one more write of the running device: it survives where it is kept
+-- one more write of the running device survives if it is kept
 kept_step : (keep : List ℕ) (kept : Bool) (number : ℕ) (v z : List ℕ) (rest : Option (List ℕ)) (d : List ℕ) (ws : List (ℕ × List ℕ)) →
     unwrap_or rest z ≡ kept_value keep d ws → is_kept keep number ≡ kept →
     unwrap_or (one_of (if kept then Some v else None) rest) z ≡ kept_value keep d (ws ++ (number, v) ∷ [])
@@ -299,7 +299,7 @@ flush_step : (keep : List ℕ) (here : Bool) (f g : ℕ) (z : List ℕ) (rest : 
 flush_step keep true f g z rest cell ws h e = e
 flush_step keep false f g z rest cell ws h e = h
 
--- what a write that is over the flushed number adds
+-- what a write above the flushed number adds
 surviving_new : (keep : List ℕ) (f : ℕ) (a : Area) (n : ℕ) (w : Write) → f < w.number →
     surviving_by keep f a n (Wrote w) ≡ (if same_area a w.area && (n == w.block) then (if is_kept keep w.number then Some w.bytes else None) else None)
 surviving_new keep f a n w over = ap (λ b. if same_area a w.area && (n == w.block) then (if b || is_kept keep w.number then Some w.bytes else None) else None) (lt-leb w.number f over)
@@ -319,7 +319,7 @@ after_calls-push size cs c = fold_push after_call (blank size) cs c
 place_path : {x y : Area} {i j : ℕ} → x ≡ y → i ≡ j → ◌≡◌ {A = Area × ℕ} (y, j) (x, i)
 place_path {x} {y} {i} {j} p q = ap (λ (z : Area). (z, j)) (sym p) ∙ ap (λ (k : ℕ). (x, k)) (sym q)
 
--- what is held of the block that was written is what is held of the block that was asked for
+-- what the written block holds, the block asked for holds
 held_here : (disk : Disk) (a b : Area) (n m : ℕ) (v : List ℕ) → (if same_area a b && (n == m) then record { reads = v; others = held (disk b m) } else disk a n) ≡ (if same_area a b && (n == m) then record { reads = v; others = held (disk a n) } else disk a n)
 held_here disk a b n m v = go (same_area a b && (n == m)) refl
   where
@@ -328,7 +328,7 @@ held_here disk a b n m v = go (same_area a b && (n == m)) refl
     go false e = refl
 
 module _ (keep : List ℕ) (size : ℕ) (a : Area) (n : ℕ) where
-  -- what survives of a block is what the crash is to leave of it
+  -- what survives of a block is what the crash leaves
   abbrev pub LeavesBlock : List Call → Type 0
   LeavesBlock cs = IsNumbered cs →
       unwrap_or (last_surviving keep (flushed_number a cs) a n cs) (replicate size 0)
@@ -344,7 +344,7 @@ module _ (keep : List ℕ) (size : ℕ) (a : Area) (n : ℕ) where
       ∙ ap (λ (m : Moments). left_of_cell keep (m.disk a n) (if same_area a area then [] else unflushed a n cs)) (sym (after_calls-push size cs (Flushed area)))
       ∙ ap (left_of_cell keep ((after_calls size (cs ++ Flushed area ∷ [])).disk a n)) (sym (unflushed-push a n cs (Flushed area)))
 
-  -- what survives after one more write, by what that write adds
+  -- what survives after one more write, by what it adds
   surviving_write : (cs : List Call) (w : Write) (added : Option (List ℕ)) → surviving_by keep (flushed_number a cs) a n (Wrote w) ≡ added →
       unwrap_or (last_surviving keep (flushed_number a (cs ++ Wrote w ∷ [])) a n (cs ++ Wrote w ∷ [])) (replicate size 0)
       ≡ unwrap_or (one_of added (last_surviving keep (flushed_number a cs) a n cs)) (replicate size 0)
@@ -392,7 +392,7 @@ oldest_is_one : (v : List ℕ) (ws : List (List ℕ)) → IsOneOf (v ∷ ws) (ol
 oldest_is_one v [] = inl refl
 oldest_is_one v (w ∷ ws) = inr (oldest_is_one w ws)
 
--- what is kept of writes that are all held, over what is held, is held
+-- a kept value is held, if all writes and the older value are
 kept_is_one : (keep : List ℕ) (vs : List (List ℕ)) (v : List ℕ) (ws : List (ℕ × List ℕ)) → IsOneOf vs v → AllByRecursion (λ w. IsOneOf vs w.1) ws → IsOneOf vs (kept_value keep v ws)
 kept_is_one keep vs v [] h all = h
 kept_is_one keep vs v (w ∷ ws) h all =
@@ -440,7 +440,7 @@ crash_leaves_held keep size a n cs =
     let cell : Cell = (after_calls size cs).disk a n in
     kept_is_one keep (held cell) (durable cell) (unflushed a n cs) (oldest_is_one cell.reads cell.others) (unflushed_held a n (blank size) [] cs tt)
 
--- what was noted of a block that was written is forgotten, and of any block no call is noted then
+-- a written block's note is forgotten
 forgot_written : (o : Option ℕ) (old : Option (Option ℕ)) → is_some o ≡ true → ((i : ℕ) → o ≡ Some i → IsSome old) → (if is_some o then option_map (λ _. None) old else old) ≡ Some None
 forgot_written None old e h = absurd (false≢true e)
 forgot_written (Some i) None e h = absurd (false≢true (h i refl))
@@ -451,7 +451,7 @@ forgot_any None old e = e
 forgot_any (Some i) None e = refl
 forgot_any (Some i) (Some p) e = refl
 
--- the device that a crash makes of one whose index agrees with its calls
+-- the device that a crash makes
 module _ (keep : List ℕ) (size : ℕ) (index forgot new : MemIndex) (cs : List Call) (w l h : ℕ) (inv : Indexes size index cs w l h) (forgets : Forgets cs index forgot) (remembers : Remembers (survivors keep l h cs) forgot new) where
   lives : List Call
   lives = survivors keep l h cs
@@ -485,7 +485,7 @@ module _ (keep : List ℕ) (size : ℕ) (index : MemIndex) (cs : List Call) (w l
   flush_numbers Log = inv.log_count
   flush_numbers Home = inv.home_count
 
-  -- each block is what the crash is to leave, and nothing else is held there
+  -- each block is as the crash leaves it, and holds nothing else
   pub crash_disk : (a : Area) (n : ℕ) → (after_calls size (survivors keep l h cs)).disk a n ≡ record { reads = left_of_cell keep ((after_calls size cs).disk a n) (unflushed a n cs); others = [] }
   crash_disk a n =
       cell_path ((after_calls size (survivors keep l h cs)).disk a n)

@@ -10,7 +10,7 @@ pub one_has : (P : Disk → Type 0) (disks : List Disk) (disk : Disk) → AllByR
 one_has P [] disk all one = absurd one
 one_has P (x ∷ disks) disk all one = ⊎_elim (λ e. subst P (sym e) all.0) (λ later. one_has P disks disk all.1 later) one
 
--- the disk that a crash met is one of those since, however these are given
+-- the disk that a crash met is one of those since
 pub crash_meets : (old new : DeviceState) (image : Image) (since : List Disk) → new.past ≡ since ++ old.past → MayHaveLeft old new image → (disk : Disk) × IsOneOf (new.disk ∷ since) disk × Leaves disk image
 crash_meets old new image since past left =
     let same : left.since ≡ since = append_cancel_right left.since since old.past (sym left.past ∙ past) in
@@ -22,11 +22,11 @@ at_crash P old new image each left =
     let met = crash_meets old new image each.since each.past left in
     (met.0, one_has P (new.disk ∷ each.since) met.0 (each.now, each.each) met.1, met.2)
 
--- a call that changed nothing adds no moment
+-- a call that changes nothing adds no moment
 pub each-stays : (P : Disk → Type 0) (old new : DeviceState) → Stays old new → P old.disk → EachMoment P old new
 each-stays P old new stays holds = record { since = []; past = stays.past; each = tt; now = subst P (sym stays.disk) holds }
 
--- one that changed the disk adds the one before
+-- a call that changes the disk adds the one before
 pub each-moves : (P : Disk → Type 0) (old new : DeviceState) (disk : Disk) → Moves old new disk → P old.disk → P disk → EachMoment P old new
 each-moves P old new disk moves before after = record { since = old.disk ∷ []; past = moves.past; each = (before, tt); now = subst P (sym moves.now) after }
 

@@ -1,4 +1,4 @@
--- Whatever is held in a block of a device in memory fills a block.
+-- Each value held in a device in memory fills a block.
 use Rattle.std.proofs.Common.{ℕ, Bool, true, false, List, [], ◌∷◌, refl, inl}
 use Rattle.std.specs.Prelude.{if◌then◌else◌, ◌&&◌, ◌==◌, replicate}
 use Rattle.std.specs.List.{fold, AllByRecursion}

@@ -1,4 +1,4 @@
--- Cells all of whose values have one length. Proofs of devices share this.
+-- Cells whose values all have one length; proofs of devices share this.
 use Rattle.std.proofs.Common.{◌≡◌, ℕ, Bool, true, false, List, [], length, ap, ◌∙◌, ⊎_elim}
 use Rattle.std.specs.Prelude.{if◌then◌else◌}
 use Rattle.journal_model.specs.Disk.{Cell, IsOneOf, held}
@@ -11,7 +11,7 @@ pub one_of_two : (size : ℕ) (b : Bool) (x y : Cell) → IsWhole size x → IsW
 one_of_two size true x y hx hy = hx
 one_of_two size false x y hx hy = hy
 
--- a value alone, and one more value over those that are held
+-- one value alone, and one more value, keep this
 pub alone : (size : ℕ) (v : List ℕ) → length v ≡ size → IsWhole size (record { reads = v; others = [] })
 alone size v e u one = ⊎_elim (λ same. ap length same ∙ e) (λ none. absurd none) one
 

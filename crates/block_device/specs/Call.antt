@@ -1,15 +1,14 @@
--- What a function does to a device, in the calls that it makes of it. This project's own.
+-- What a function does to a device, counted in calls. This project's own.
 use Rattle.std.specs.Prelude.{◌≡◌}
 use Rattle.journal_model.specs.Disk.{Disk}
 use Rattle.block_device.specs.State.{DeviceState, EachMoment, MakesAtMostOneCall, Moves, Stays}
 
--- at most one moment: the disk stays, or it is another one
+-- the disk changes at most once
 pub data IsOneMoment (old new : DeviceState) : Type 0 where
   Same : Stays old new → IsOneMoment old new
   Another : (disk : Disk) → Moves old new disk → IsOneMoment old new
 
--- a device is called once or not at all, and keeps its shape; where its reads were honest before, each moment since is as
--- `During` says
+-- at most one call, with the same shape; if earlier reads were correct, `During` holds at each moment since
 pub record MakesOneCall {A : Type 0} (state : A → DeviceState) (Honest : A → Type 0) (During : Disk → Type 0) (old new : A) : Type 0 where
   pub shape : (state new).shape ≡ (state old).shape
   pub moments : Honest old → EachMoment During (state old) (state new)
@@ -17,7 +16,7 @@ pub record MakesOneCall {A : Type 0} (state : A → DeviceState) (Honest : A →
   pub calls : MakesAtMostOneCall (state old) (state new)
   pub honest : Honest new → Honest old
 
--- a device is read, however often: nothing on it changes
+-- reads change no disk
 pub record OnlyReads {A : Type 0} (state : A → DeviceState) (Honest : A → Type 0) (old new : A) : Type 0 where
   pub stays : Stays (state old) (state new)
   pub honest : Honest new → Honest old

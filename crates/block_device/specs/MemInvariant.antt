@@ -1,4 +1,4 @@
--- What a device in memory keeps true of its fields: the index and the counters agree with the list of calls.
+-- How the index and counters of a device in memory agree with its list of calls.
 use Rattle.std.specs.Prelude.{◌≡◌, ◌⊎◌, ℕ, suc, ◌==◌, ◌&&◌, ◌||◌, nat_le, Bool, false, if◌then◌else◌, List, [], ◌∷◌, length, map, filter, Option, Some, None, IsSome, is_some, option_map, ⊤}
 use Rattle.std.specs.List.{fold, list_any, AllByRecursion}
 use Rattle.journal_model.specs.declared.number.Area.{Area}
@@ -11,11 +11,10 @@ use Rattle.block_device.specs.declared.memory.Call.{Call}
 use Rattle.block_device.specs.declared.memory.Call.TheVariants.{Wrote, Flushed}
 use Rattle.block_device.specs.declared.memory.MemDevice.TheInside.{Inside}
 
--- the device without its index and its counters
+-- the device without index and counters
 abbrev pub mem_view : Inside → MemState
 mem_view d = record { shape = record { block_size = d.size; log_blocks = d.log; home_blocks = d.home }; calls = d.calls.items; faults = d.faults; calls_made = d.calls_made }
 
--- whether a call wrote this block
 abbrev pub wrote_block : Area → ℕ → Call → Bool
 wrote_block a n (Wrote w) = same_area a w.area && (n == w.block)
 wrote_block a n (Flushed area) = false
@@ -24,7 +23,7 @@ abbrev pub or_else : Option ℕ → Option ℕ → Option ℕ
 or_else None other = other
 or_else (Some i) other = Some i
 
--- the last of these calls that wrote a block, where the first of them has this index
+-- the last call that wrote the block; the first call has index k
 abbrev pub newest_from : Area → ℕ → ℕ → List Call → Option ℕ
 newest_from a n k [] = None
 newest_from a n k (c ∷ cs) = or_else (newest_from a n (suc k) cs) (if wrote_block a n c then Some k else None)
@@ -32,12 +31,11 @@ newest_from a n k (c ∷ cs) = or_else (newest_from a n (suc k) cs) (if wrote_bl
 abbrev pub newest : Area → ℕ → List Call → Option ℕ
 newest a n calls = newest_from a n 0 calls
 
--- the write's bytes fill a block
 abbrev pub FillsBlock : ℕ → Call → Type 0
 FillsBlock size (Wrote w) = length w.bytes ≡ size
 FillsBlock size (Flushed a) = ⊤
 
--- the number of the last write before the last flush of an area
+-- the number of the last write before the area's last flush
 abbrev pub flushed_after : Area → ℕ × ℕ → Call → ℕ × ℕ
 flushed_after a p (Wrote w) = (counted p.0 (Wrote w), p.1)
 flushed_after a p (Flushed area) = (p.0, if same_area a area then p.0 else p.1)
@@ -45,7 +43,7 @@ flushed_after a p (Flushed area) = (p.0, if same_area a area then p.0 else p.1)
 abbrev pub flushed_number : Area → List Call → ℕ
 flushed_number a calls = (fold (flushed_after a) (0, 0) calls).1
 
--- writes left by a crash come first, and the others are numbered from 1 on
+-- writes left by a crash come first; the others are numbered from 1
 abbrev pub IsLeft : Call → Type 0
 IsLeft (Wrote w) = w.number ≡ 0
 IsLeft (Flushed a) = ⊥
@@ -60,7 +58,7 @@ IsNumbered [] = ⊤
 IsNumbered (Wrote w ∷ cs) = ((w.number ≡ 0) × IsNumbered cs) ⊎ NumberedFrom 0 (Wrote w ∷ cs)
 IsNumbered (Flushed a ∷ cs) = NumberedFrom 0 cs
 
--- the index and the counters of a device with blocks of this size agree with its calls
+-- index and counters agree with the calls
 pub record Indexes (size : ℕ) (index : MemIndex) (calls : List Call) (writes log_flushed home_flushed : ℕ) : Type 0 where
   pub sizes : AllByRecursion (FillsBlock size) calls
   pub indexed : (a : Area) (n : ℕ) → newest_in index a n ≡ newest a n calls
@@ -73,7 +71,6 @@ pub record Indexes (size : ℕ) (index : MemIndex) (calls : List Call) (writes l
 abbrev pub IsIndexed : Inside → Type 0
 IsIndexed d = Indexes d.size d.index d.calls.items d.writes d.log_flushed d.home_flushed
 
--- whether a call is a write that survives a crash: it was flushed, or it is kept
 abbrev pub is_kept : List ℕ → ℕ → Bool
 is_kept keep number = list_any (λ k. k == number) keep
 
@@ -85,25 +82,20 @@ abbrev pub survives_crash : List ℕ → ℕ → ℕ → Call → Bool
 survives_crash keep log home (Flushed a) = false
 survives_crash keep log home (Wrote w) = nat_le w.number (flushed_in log home w.area) || is_kept keep w.number
 
--- a write as a crash leaves it
 abbrev pub settled : Call → Call
 settled (Wrote w) = Wrote (record { area = w.area; block = w.block; number = 0; bytes = w.bytes })
 settled (Flushed a) = Flushed a
 
--- the calls that survive a crash, as it leaves them
 abbrev pub survivors : List ℕ → ℕ → ℕ → List Call → List Call
 survivors keep log home calls = map settled (filter (survives_crash keep log home) calls)
 
--- each block that these calls wrote is noted as one that no call wrote
 abbrev pub Forgets : List Call → MemIndex → MemIndex → Type 0
 Forgets calls old new =
     (a : Area) (n : ℕ) → noted_in new a n ≡ (if is_some (newest a n calls) then option_map (λ _. None) (noted_in old a n) else noted_in old a n)
 
--- what was noted, with the call that wrote last in the place of what stood there, if one did
 abbrev pub renoted : Option ℕ → Option (Option ℕ) → Option (Option ℕ)
 renoted None old = old
 renoted (Some i) old = option_map (λ _. Some i) old
 
--- each block that these calls wrote is noted with the last of them
 abbrev pub Remembers : List Call → MemIndex → MemIndex → Type 0
 Remembers calls old new = (a : Area) (n : ℕ) → noted_in new a n ≡ renoted (newest a n calls) (noted_in old a n)

@@ -1,4 +1,4 @@
--- A device in memory: its calls, and what they make of the disk. This project's own.
+-- Which calls a device in memory has accepted, and what they make of the disk. This project's own.
 use Rattle.std.specs.Prelude.{ℕ, ◌+◌, ◌==◌, ◌&&◌, if◌then◌else◌, List, [], ◌∷◌, ◌++◌, replicate}
 use Rattle.std.specs.List.{fold, list_any}
 use Rattle.journal_model.specs.declared.number.Area.{Area}
@@ -7,24 +7,23 @@ use Rattle.block_device.specs.State.{DeviceState}
 use Rattle.block_device.specs.declared.memory.Call.{Call}
 use Rattle.block_device.specs.declared.memory.Call.TheVariants.{Wrote, Flushed}
 
--- a device in memory: its measures, the calls that it took, oldest first, how often it has failed, and how many calls were made
--- of it
+-- `calls` are the accepted ones, oldest first; `calls_made` counts all
 pub record MemState : Type 0 where
   pub shape : Shape
   pub calls : List Call
   pub faults : ℕ
   pub calls_made : ℕ
 
--- the disk at one moment, and the disks before, newest first
+-- earlier disks, newest first
 pub record Moments : Type 0 where
   pub disk : Disk
   pub past : List Disk
 
--- a block that nothing was written to reads as zeros
+-- an unwritten block reads as zeros
 abbrev pub blank : ℕ → Moments
 blank size = record { disk = λ a n. record { reads = replicate size 0; others = [] }; past = [] }
 
--- what a call makes of the disk: a write with number 0 is one that a crash left, and is durable from the start
+-- a write with number 0 was left by a crash and is durable from the start
 abbrev pub after_call : Moments → Call → Moments
 after_call m (Wrote w) =
     if w.number == 0
@@ -32,17 +31,15 @@ after_call m (Wrote w) =
     else record { disk = written m.disk w.area w.block w.bytes; past = m.disk ∷ m.past }
 after_call m (Flushed a) = record { disk = flushed m.disk a; past = m.disk ∷ m.past }
 
--- what calls in a row make of it
 abbrev pub after_calls : ℕ → List Call → Moments
 after_calls size calls = fold after_call (blank size) calls
 
--- the state of the device
 abbrev pub state_of : MemState → DeviceState
 state_of s =
     let m = after_calls s.shape.block_size s.calls in
     record { shape = s.shape; disk = m.disk; past = m.past; faults = s.faults; calls = s.calls_made }
 
--- how many numbered writes there are: the last write's number
+-- the number of the last write
 abbrev pub counted : ℕ → Call → ℕ
 counted n (Wrote w) = if w.number == 0 then n else n + 1
 counted n (Flushed a) = n
@@ -50,7 +47,7 @@ counted n (Flushed a) = n
 abbrev pub writes_of : List Call → ℕ
 writes_of calls = fold counted 0 calls
 
--- the writes of a block since the last flush of its area, oldest first, each with its number
+-- the writes of a block since its area's last flush, oldest first, with numbers
 abbrev pub unflushed_after : Area → ℕ → List (ℕ × List ℕ) → Call → List (ℕ × List ℕ)
 unflushed_after a n ws (Wrote w) = if same_area a w.area && (n == w.block) then (if w.number == 0 then [] else ws ++ (w.number, w.bytes) ∷ []) else ws
 unflushed_after a n ws (Flushed area) = if same_area a area then [] else ws
@@ -58,7 +55,7 @@ unflushed_after a n ws (Flushed area) = if same_area a area then [] else ws
 abbrev pub unflushed : Area → ℕ → List Call → List (ℕ × List ℕ)
 unflushed a n calls = fold (unflushed_after a n) [] calls
 
--- the oldest value that is held: the one at the last flush of the area
+-- the value at the area's last flush
 abbrev pub oldest : List ℕ → List (List ℕ) → List ℕ
 oldest v [] = v
 oldest v (w ∷ ws) = oldest w ws
@@ -66,10 +63,10 @@ oldest v (w ∷ ws) = oldest w ws
 abbrev pub durable : Cell → List ℕ
 durable c = oldest c.reads c.others
 
--- the value of the last of these writes whose number is kept, or else v; numbers rise, so it has the greatest of them
+-- the last of these writes with a kept number, else v; numbers rise, so it has the greatest one
 abbrev pub kept_value : List ℕ → List ℕ → List (ℕ × List ℕ) → List ℕ
 kept_value keep v ws = fold (λ u w. if list_any (λ k. k == w.0) keep then w.1 else u) v ws
 
--- what a crash that keeps these writes makes of a block: its greatest kept unflushed write, or else its flushed value
+-- the block's greatest kept unflushed write, else its flushed value
 abbrev pub crashed : List ℕ → MemState → Area → ℕ → List ℕ
 crashed keep s a n = kept_value keep (durable ((state_of s).disk a n)) (unflushed a n s.calls)

@@ -1,4 +1,4 @@
-//! The trait of devices, and their fault.
+//! What a device must do, and its fault.
 ghost use Rattle.std.specs.Prelude.{◌≡◌, ◌<◌, ℕ, length, OnOk, OnErr};
 ghost use Rattle.block_device.specs.State.{DeviceState, blocks_in, CountsCall, CountsFaults, HoldsWholeBlocks, Stays, Moves, Writes};
 ghost use Rattle.journal_model.specs.Disk.{written, flushed};
@@ -30,19 +30,23 @@ impl From<DeviceFault> for JournalError {
     }
 }
 
-/// A disk with a log area and a home area, and a volatile cache. Blocks are numbered from 0 in each area. Each block of
-/// each area is written whole or not at all, and survives a loss of power independently of all others. Each call is at
-/// most one moment: the disk before it is noted in the past. Each read, write and flush is counted, whatever it answers.
+/// A disk with a log area, a home area and a volatile cache; blocks are numbered from 0 in each area.
+///
+/// A block is written whole or not at all, and survives a crash independently of others. Each call changes the disk at
+/// most once, and the earlier disk joins the past. Each read, write and flush is counted, whatever it answers.
 pub trait Device {
-    /// What each block reads, what a crash may leave, the moments before, and the counts of failures and of calls.
+    /// What each block reads, what a crash may leave, earlier disks, failures and calls.
     ghost state: { Self → DeviceState };
 
-    /// Each read so far gave what the disk reads. It is trivial for a device of its own; over files it may be lost, where
-    /// others write them or the medium forgets, and never comes back.
+    /// Each read so far gave what the disk reads. Over files this may be lost for good, if others write them or the
+    /// medium forgets.
     ghost honest: { Self → Type 0 };
 
-    /// Reads block `n` of an area into a buffer of one block. A failed read changes nothing but the buffer, whose bytes
-    /// are then unspecified.
+    /// Reads block `n` of an area into a buffer of one block.
+    ///
+    /// # Errors
+    ///
+    /// The read failed: the buffer's bytes are unspecified, and nothing else changed.
     fn read(&mut self, area: Area, n: u64, into: &mut [u8]) -> Result<(), DeviceFault>
         requires block { length into.old ≡ (state self.old).shape.block_size }
         requires there { n < blocks_in (state self.old).shape area }
@@ -52,7 +56,11 @@ pub trait Device {
         ensures calls { CountsCall (state self.old) (state self.new) }
         ensures honest { honest self.new → honest self.old };
 
-    /// Writes block `n` of an area. After a fault the block reads as before or as the bytes, and a crash may keep either.
+    /// Writes block `n` of an area.
+    ///
+    /// # Errors
+    ///
+    /// The write failed: the block reads as before or as the bytes, and a crash may keep either.
     fn write(&mut self, area: Area, n: u64, bytes: &[u8]) -> Result<(), DeviceFault>
         requires block { length bytes.now ≡ (state self.old).shape.block_size }
         requires there { n < blocks_in (state self.old).shape area }
@@ -62,7 +70,11 @@ pub trait Device {
         ensures calls { CountsCall (state self.old) (state self.new) }
         ensures honest { honest self.new → honest self.old };
 
-    /// Makes every block of an area durable as it reads. After a fault nothing is durable that was not before.
+    /// Makes every block of an area durable as it reads.
+    ///
+    /// # Errors
+    ///
+    /// The flush failed: nothing more is durable than before.
     fn flush(&mut self, area: Area) -> Result<(), DeviceFault>
         ensures ok { OnOk result (Moves (state self.old) (state self.new) (flushed (state self.old).disk area)) }
         ensures err { OnErr result (Stays (state self.old) (state self.new)) }
@@ -70,11 +82,11 @@ pub trait Device {
         ensures calls { CountsCall (state self.old) (state self.new) }
         ensures honest { honest self.new → honest self.old };
 
-    /// How many blocks an area has.
+    /// The number of blocks of an area.
     fn blocks(&self, area: Area) -> u64
         ensures { result ≡ blocks_in (state self.now).shape area };
 
-    /// How many bytes a block has.
+    /// The bytes of a block.
     fn block_size(&self) -> usize
         ensures size { result ≡ (state self.now).shape.block_size }
         ensures whole { HoldsWholeBlocks (state self.now) };

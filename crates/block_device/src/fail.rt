@@ -1,12 +1,12 @@
-//! A device of which one call fails.
+//! A device that fails in one chosen call.
 ghost use Rattle.std.specs.Prelude.{◌≡◌, ◌<◌, ◌↔◌, length, IsErr, OnOk, OnErr};
 ghost use Rattle.block_device.specs.State.{one_more_call, one_more_fault};
 
 use crate::{Device, DeviceFault};
 use journal_model::Area;
 
-/// A device of which one call fails: that call answers a fault and does nothing, and each other call is one of the device
-/// behind it. Reads, writes and flushes are calls; asking for the blocks of an area, or for the bytes of a block, is none.
+/// A device of which one call answers a fault and does nothing; all others go to the inner device. `blocks` and
+/// `block_size` are no calls.
 #[derive(Drop)]
 pub struct FailOnce<D> {
     device: D,
@@ -18,7 +18,7 @@ pub struct FailOnce<D> {
 impl<D: Device> FailOnce<D> {
     ghost use Rattle.block_device.specs.Fail.{FailsNext, inner_of, calls_of};
 
-    /// Lets call `k` of the device fail, counted from 1 among all calls from now on. With 0 none fails.
+    /// Makes call `k` fail, counted from 1 from now on; with 0 none fails.
     pub fn new(device: D, k: u64) -> Self
         ensures { result ≡ record { device = device; fails_at = k; calls = 0; faults = 0 } }
     {
@@ -30,7 +30,7 @@ impl<D: Device> FailOnce<D> {
         }
     }
 
-    /// The device behind it, as the calls left it.
+    /// The inner device, as the calls left it.
     pub fn into_inner(self) -> D
         ensures { result ≡ inner_of self }
     {
@@ -43,14 +43,14 @@ impl<D: Device> FailOnce<D> {
         device
     }
 
-    /// How many calls were made, the one that failed among them. The count stays at 2^64 - 1.
+    /// The calls so far, with the failed one. The count stays at 2^64 - 1.
     pub fn calls(&self) -> u64
         ensures { result ≡ calls_of self.now }
     {
         self.calls
     }
 
-    /// Counts a call: a fault is answered where it is the one that fails.
+    /// Counts a call; the chosen one answers the fault.
     fn count_call(&mut self) -> Result<(), DeviceFault>
         ensures fails { IsErr result ↔ FailsNext self.old }
         ensures passes { OnOk result (self.new ≡ record self.old { calls = one_more_call self.old.calls }) }
@@ -84,9 +84,9 @@ impl<D: Device> Device for FailOnce<D> {
         ensures calls { CountsCall (failing D.state self.old) (failing D.state self.new) }
         ensures honest { D.honest (inner_of self.new) → D.honest (inner_of self.old) }
 
-        // The call that fails does nothing, to the buffer either.
+        // The chosen call does nothing, and leaves the buffer.
         ensures lost { FailsNext self.old → IsLost result self.old self.new × (into.new ≡ into.old) }
-        // Any other fault is that of the device behind it.
+        // Any other fault is the inner device's.
         ensures passes { ¬ FailsNext self.old →
             PassesOn self.old self.new × CountsFaults result (D.state (inner_of self.old)) (D.state (inner_of self.new)) }
     {

@@ -1,9 +1,8 @@
-//! Devices that lose power: the trait that the journal is proved over, a device in memory, one that stops, and one that fails
-//! once.
+//! Devices that may crash: the trait that the journal is proved over, a device in memory, one that stops at a write, and one
+//! that fails once.
 //!
-//! What contracts see of a device is a `DeviceState`: of each block what a read gives and what else a crash may leave
-//! there, the disks before, and how often the device has failed. Not proved, and not provable here: that a real disk
-//! writes each block whole or not at all, and that its flush is honest.
+//! Contracts see a device as a `DeviceState`. Not proved, and not provable here: a real disk writes each block whole or not
+//! at all, and its flush makes blocks durable.
 #![tactic(auto)]
 
 mod device;

@@ -1,4 +1,4 @@
-//! A device in memory: the list of its calls.
+//! A device in memory, as the list of its calls.
 ghost use Rattle.std.specs.Prelude.{◌≡◌, IfOk, map};
 ghost use Rattle.block_device.specs.MemInvariant.{survives_crash, settled, survivors, Forgets, Remembers};
 
@@ -9,30 +9,27 @@ use journal_model::Area;
 use std::alloc::{AllocError, Global};
 use std::marker::Model;
 
-/// One write that a device in memory took.
+/// An accepted write.
 #[derive(Drop)]
 pub struct Write {
-    /// The area that was written.
     pub area: Area,
     /// The block's number in its area, counted from 0.
     pub block: u64,
     /// Counted from 1; 0 for a write that a crash left.
     pub number: u64,
-    /// The new content, one block long.
+    /// One block long.
     pub bytes: StoredBlock,
 }
 
-/// One call that a device in memory took.
+/// An accepted call.
 #[derive(Drop)]
 pub enum Call {
-    /// A write that the cache took.
     Wrote(Write),
-    /// A flush that succeeded, of one area.
     Flushed(Area),
 }
 
 impl Call {
-    /// The same call once more, which shares the bytes of a write. It fails as a clone of a block does.
+    /// The same call, sharing the bytes of a write. It fails as `Block::try_clone` does.
     fn try_clone(&self) -> Result<Self, AllocError>
         ensures { IfOk result (λ copy. copy ≡ self.now) }
     {
@@ -48,8 +45,8 @@ impl Call {
     }
 }
 
-/// A device in memory, with a volatile cache. Blocks that were never written read as zeros and take no memory, and a write
-/// of zeros takes none for its bytes.
+/// A device in memory with a volatile cache. Unwritten blocks read as zeros; neither they nor writes of zeros take memory
+/// for bytes.
 #[derive(Drop)]
 pub struct MemDevice {
     alloc: Global,
@@ -85,7 +82,7 @@ impl MemDevice {
     ghost use Rattle.journal_model.specs.Disk.{Leaves, reading};
     ghost use Rattle.block_device.specs.Memory.{state_of, writes_of, crashed};
 
-    /// A device of `log` and `home` blocks of `size` bytes, all of them zeros. It takes no memory.
+    /// A device of `log` and `home` blocks of `size` bytes, all zeros. It takes no memory.
     pub fn new(alloc: Global, size: usize, log: u64, home: u64) -> Self
         ensures { result ≡ record { shape = record { block_size = size; log_blocks = log; home_blocks = home }; calls = []; faults = 0; calls_made = 0 } }
     {
@@ -104,11 +101,11 @@ impl MemDevice {
         }
     }
 
-    /// A device of its own with the same blocks, cache and counts, so that power may be taken away from each in its own way.
+    /// An independent device with the same blocks, cache and counts.
     ///
     /// # Errors
     ///
-    /// Memory runs out.
+    /// `AllocError`: memory ran out.
     pub fn try_clone(&self) -> Result<Self, AllocError>
         ensures { IfOk result (λ copy. copy ≡ self.now) }
     {
@@ -129,15 +126,15 @@ impl MemDevice {
         })
     }
 
-    /// The number of the last write, or 0 where none was made since the device was made or crashed.
+    /// The number of the last write since the device was made or crashed, or 0.
     pub fn writes(&self) -> u64
         ensures { result ≡ writes_of self.now.calls }
     {
         self.writes
     }
 
-    /// Takes the power away: each block keeps its unflushed write with the greatest number in `keep`, or else what
-    /// was flushed. The writes of the image are numbered from 1 again. It takes no memory.
+    /// Crashes the device, without memory. Each block keeps its unflushed write with the greatest number in `keep`, else
+    /// its flushed content. Later writes are numbered from 1 again.
     pub fn crash(self, keep: &[u64]) -> Self
         ensures image { (a : Area) (n : ℕ) → (state_of result).disk a n ≡ record { reads = crashed keep.now self a n; others = [] } }
         ensures allowed { Leaves (state_of self).disk (reading (state_of result).disk) }
@@ -178,14 +175,12 @@ impl MemDevice {
         }
     }
 
-    /// Counts a call.
     fn count_call(&mut self)
         ensures { self.new ≡ record self.old { calls_made = one_more_call self.old.calls_made } }
     {
         self.calls_made = self.calls_made.saturating_add(1);
     }
 
-    /// Counts a failure.
     fn fault(&mut self) -> DeviceFault
         ensures { self.new ≡ record self.old { faults = one_more_fault self.old.faults } }
     {
@@ -193,7 +188,7 @@ impl MemDevice {
         DeviceFault
     }
 
-    /// Takes a write. Where memory runs out, all stays as it was.
+    /// If memory runs out, nothing changes.
     fn note_write(&mut self, area: Area, block: u64, bytes: &[u8]) -> Result<(), AllocError>
         requires size { length bytes.now ≡ self.old.shape.block_size }
         requires number { writes_of self.old.calls < 2 ^ 64 - 1 }
@@ -216,7 +211,7 @@ impl MemDevice {
         Ok(())
     }
 
-    /// Takes a flush. Where memory runs out, all stays as it was.
+    /// If memory runs out, nothing changes.
     fn note_flush(&mut self, area: Area) -> Result<(), AllocError>
         ensures ok { OnOk result (self.new ≡ record self.old { calls = self.old.calls ++ Flushed area ∷ [] }) }
         ensures err { OnErr result (self.new ≡ self.old) }
@@ -273,7 +268,7 @@ impl Device for MemDevice {
         ensures calls { CountsCall (state_of self.old) (state_of self.new) }
         ensures honest { Unit {0} → Unit {0} }
 
-        // A write that was taken has the next number; one that was not has changed nothing but the counts.
+        // An accepted write has the next number; a refused one changes only the counts.
         ensures taken { OnOk result (self.new ≡ record self.old {
           calls = self.old.calls
               ++ Wrote (record { area = area; block = n; number = writes_of self.old.calls + 1; bytes = bytes.now }) ∷ [];
@@ -331,7 +326,6 @@ impl Device for MemDevice {
     }
 }
 
-/// The same calls once more. It fails where memory runs out.
 fn copy_of_calls(alloc: Global, calls: &[Call]) -> Result<Vec<Call>, AllocError>
     ensures { IfOk result (λ copies. copies.items ≡ calls.now) }
 {
@@ -342,7 +336,7 @@ fn copy_of_calls(alloc: Global, calls: &[Call]) -> Result<Vec<Call>, AllocError>
     Ok(copies)
 }
 
-/// Whether a call is a write that survives a crash: it was flushed, or its number is kept.
+/// Whether a call is a write that was flushed, or is kept.
 fn survives(call: &Call, keep: &[u64], log_flushed: u64, home_flushed: u64) -> bool
     ensures { result ≡ survives_crash keep.now log_flushed home_flushed call.now }
 {
@@ -358,7 +352,7 @@ fn survives(call: &Call, keep: &[u64], log_flushed: u64, home_flushed: u64) -> b
     }
 }
 
-/// Notes each block that the calls wrote as one that no call wrote.
+/// Notes the written blocks as unwritten.
 fn forget(calls: &[Call], index: &mut MemIndex)
     ensures { Forgets calls.now index.old index.new }
 {
@@ -369,7 +363,7 @@ fn forget(calls: &[Call], index: &mut MemIndex)
     }
 }
 
-/// Leaves the writes that survive a crash, without their numbers.
+/// Keeps the writes that survive a crash, without their numbers.
 fn keep_survivors(calls: &mut Vec<Call>, keep: &[u64], log_flushed: u64, home_flushed: u64)
     ensures { calls.new.items ≡ survivors keep.now log_flushed home_flushed calls.old.items }
 {
@@ -388,7 +382,7 @@ fn settle(calls: &mut [Call])
     }
 }
 
-/// Notes each block that the calls wrote with the last of them.
+/// Notes for each written block its last call.
 fn remember(calls: &[Call], index: &mut MemIndex)
     ensures { Remembers calls.now index.old index.new }
 {

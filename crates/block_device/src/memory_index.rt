@@ -1,4 +1,4 @@
-//! Finds the newest write of a block of a device in memory.
+//! Which write of each block of a device in memory is the newest.
 ghost use Rattle.std.specs.Prelude.{◌≡◌, ℕ, ◌==◌, if◌then◌else◌, Some, None, option_map, IfOk, OnOk, OnErr};
 ghost use Rattle.std.specs.Ordering.{nat_cmp};
 ghost use Rattle.std.specs.BTreeMap.{get};
@@ -8,7 +8,7 @@ use journal_model::Area;
 use std::alloc::{AllocError, Global};
 use std::collections::BTreeMap;
 
-/// Where the newest call that wrote a block stands in the list of calls.
+/// The place of each block's newest write in the list of calls.
 #[derive(Drop)]
 pub struct MemIndex {
     log: BTreeMap<u64, Option<usize>>,
@@ -18,7 +18,7 @@ pub struct MemIndex {
 impl MemIndex {
     ghost use Rattle.block_device.specs.MemIndex.{noted_in, newest_in, NotesOnly, NotesSame};
 
-    /// An index with nothing noted. It takes no memory.
+    /// An empty index. It takes no memory.
     pub fn new(alloc: Global) -> Self
         ensures { (a : Area) (n : ℕ) → noted_in result a n ≡ None }
     {
@@ -28,7 +28,7 @@ impl MemIndex {
         }
     }
 
-    /// An index of its own in which each block is noted as in this one. It fails where memory runs out.
+    /// The same notes once more. It fails if memory runs out.
     pub fn try_clone(&self) -> Result<Self, AllocError>
         ensures { IfOk result (λ copy. NotesSame self.now copy) }
     {
@@ -38,7 +38,6 @@ impl MemIndex {
         })
     }
 
-    /// The call that wrote a block last.
     pub fn newest(&self, area: Area, block: u64) -> Option<usize>
         ensures { result ≡ newest_in self.now area block }
     {
@@ -48,7 +47,7 @@ impl MemIndex {
         }
     }
 
-    /// Notes a call that writes a block. Where memory runs out, all stays as it was.
+    /// If memory runs out, nothing changes.
     pub fn note(&mut self, area: Area, block: u64, call: usize) -> Result<(), AllocError>
         ensures ok { OnOk result (NotesOnly self.old self.new area block (λ _. Some (Some call))) }
         ensures err { OnErr result (NotesSame self.old self.new) }
@@ -60,7 +59,7 @@ impl MemIndex {
         Ok(())
     }
 
-    /// Sets what is known of a block that was noted before. It takes no memory.
+    /// Changes the note of a block that has one, without memory.
     pub fn reset(&mut self, area: Area, block: u64, call: Option<usize>)
         ensures { NotesOnly self.old self.new area block (option_map (λ _. call)) }
     {

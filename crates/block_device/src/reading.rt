@@ -1,4 +1,4 @@
-//! Reading one block of a device into a block of its own.
+//! Reading one block of a device into a `Block`.
 ghost use Rattle.std.specs.Prelude.{◌≡◌, ◌<◌, IfOk, MatchResult, length};
 ghost use Rattle.journal_model.specs.Disk.{reading};
 ghost use Rattle.block_device.specs.Call.{OnlyReads};
@@ -8,7 +8,7 @@ use crate::Device;
 use journal_model::{Area, Block, JournalError};
 use std::alloc::Global;
 
-/// Block `n` of an area, which has that block. It takes memory for one block.
+/// Block `n` of an area that has it, in memory for one block.
 ///
 /// # Errors
 ///

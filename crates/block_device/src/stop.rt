@@ -1,12 +1,12 @@
-//! A device that loses power at one of its writes.
+//! A device that crashes at one chosen write.
 ghost use Rattle.std.specs.Prelude.{◌≡◌, ◌≢◌, ◌<◌, ◌-◌, ◌↔◌, false, true, length, IsOk, IsErr, OnOk, OnErr};
 ghost use Rattle.block_device.specs.State.{one_more_call, one_more_fault};
 
 use crate::{Device, DeviceFault};
 use journal_model::Area;
 
-/// A device that loses power at one of its writes: that write enters the cache and answers a fault, and each later call
-/// answers a fault and does nothing.
+/// A device that crashes at one of its writes: that one enters the cache and answers a fault, and later calls answer a
+/// fault and do nothing.
 #[derive(Drop)]
 pub struct StopAt<D> {
     device: D,
@@ -19,7 +19,7 @@ pub struct StopAt<D> {
 impl<D: Device> StopAt<D> {
     ghost use Rattle.block_device.specs.Stop.{inner_of, left_of, is_stopped};
 
-    /// Stops the device at write `k`, counted from 1 among the writes that succeed from now on. With 0 it never stops.
+    /// Crashes at write `k`, counted from 1 among the writes that succeed from now on; with 0 never.
     pub fn new(device: D, k: u64) -> Self
         ensures { result ≡ record { device = device; left = k; stopped = false; faults = 0; calls = 0 } }
     {
@@ -32,7 +32,7 @@ impl<D: Device> StopAt<D> {
         }
     }
 
-    /// The device, as the stop left it.
+    /// The inner device, as the crash left it.
     pub fn into_inner(self) -> D
         ensures { result ≡ inner_of self }
     {
@@ -46,14 +46,14 @@ impl<D: Device> StopAt<D> {
         device
     }
 
-    /// Whether the power is gone.
+    /// Whether the device has crashed.
     pub fn is_stopped(&self) -> bool
         ensures { result ≡ is_stopped self.now }
     {
         self.stopped
     }
 
-    /// Counts a call, and answers a fault where the power is gone.
+    /// Counts a call; after the crash it answers a fault.
     fn running(&mut self) -> Result<(), DeviceFault>
         ensures ok { IsOk result ↔ (is_stopped self.old ≡ false) }
         ensures running { OnOk result (self.new ≡ record self.old { calls = one_more_call self.old.calls }) }
@@ -66,7 +66,7 @@ impl<D: Device> StopAt<D> {
         Ok(())
     }
 
-    /// Counts a write that entered the cache: a fault is answered where it was the last one.
+    /// Counts a write in the cache; the last one answers a fault.
     fn count_write(&mut self) -> Result<(), DeviceFault>
         ensures last { IsErr result ↔ (left_of self.old ≡ 1) }
         ensures other { OnOk result (self.new ≡ record self.old { left = self.old.left - 1 }) }
@@ -80,7 +80,6 @@ impl<D: Device> StopAt<D> {
         Ok(())
     }
 
-    /// Counts a failure of its own.
     fn fault(&mut self) -> DeviceFault
         ensures { self.new ≡ record self.old { faults = one_more_fault self.old.faults } }
     {
@@ -125,13 +124,13 @@ impl<D: Device> Device for StopAt<D> {
         ensures honest { D.honest (inner_of self.new) → D.honest (inner_of self.old) }
 
         ensures silent { IsSilent result self.old self.new }
-        // Each write that succeeds is counted, and the one at which the power goes away is not answered Ok.
+        // The write at which the device crashes is not answered Ok.
         ensures counts { is_stopped self.old ≡ false → OnOk result ((left_of self.old ≢ 1) × UsesWrite self.old self.new) }
         // That one entered the cache.
         ensures last { is_stopped self.old ≡ false → is_stopped self.new ≡ true →
             IsErr result × (left_of self.old ≡ 1)
             × Moves (D.state (inner_of self.old)) (D.state (inner_of self.new)) (written (D.state (inner_of self.old)).disk area n bytes.now) }
-        // Any other fault is that of the device behind it.
+        // Any other fault is the inner device's.
         ensures inside { is_stopped self.old ≡ false → is_stopped self.new ≡ false →
             OnErr result (PassesOn self.old self.new × CountsFaults result (D.state (inner_of self.old)) (D.state (inner_of self.new))) }
     {

@@ -1,22 +1,20 @@
-//! The bytes of a written block, which take no memory where they are zeros.
+//! The bytes of a written block; zeros take no memory.
 ghost use Rattle.std.specs.Prelude.{◌≡◌, ◌↔◌, IfOk, IsTrue, length, replicate};
 
 use journal_model::Block;
 use std::alloc::{AllocError, Global};
 use std::marker::Model;
 
-/// The bytes of one block that was written. Contracts see the list of the bytes.
+/// Contracts see the list of bytes.
 #[derive(Drop)]
 pub struct StoredBlock {
     form: Form,
 }
 
-/// How the bytes are kept.
 #[derive(Drop)]
 enum Form {
     /// So many zeros.
     Zeros(usize),
-    /// These bytes.
     Bytes(Block),
 }
 
@@ -31,7 +29,7 @@ impl Model for StoredBlock {
 }
 
 impl StoredBlock {
-    /// A copy of these bytes. Zeros take no memory; else it fails where memory runs out.
+    /// A copy of these bytes. It fails if memory runs out; zeros take none.
     pub(crate) fn copy_of(alloc: Global, bytes: &[u8]) -> Result<Self, AllocError>
         ensures { IfOk result (λ stored. stored ≡ bytes.now) }
     {
@@ -43,7 +41,7 @@ impl StoredBlock {
         Ok(StoredBlock { form })
     }
 
-    /// These bytes once more, which are shared. It takes no memory, and fails as a clone of a block does.
+    /// The same bytes, shared. It fails as `Block::try_clone` does.
     pub(crate) fn try_clone(&self) -> Result<Self, AllocError>
         ensures { IfOk result (λ copy. copy ≡ self.now) }
     {
@@ -54,7 +52,6 @@ impl StoredBlock {
         Ok(StoredBlock { form })
     }
 
-    /// Copies the bytes into a buffer of as many.
     pub(crate) fn copy_to(&self, into: &mut [u8])
         requires { length into.old ≡ length self.now }
         ensures { into.new ≡ self.now }
@@ -66,7 +63,6 @@ impl StoredBlock {
     }
 }
 
-/// Whether all of these bytes are 0.
 fn are_zeros(bytes: &[u8]) -> bool
     ensures { IsTrue result ↔ (bytes.now ≡ replicate (length bytes.now) 0) }
 {

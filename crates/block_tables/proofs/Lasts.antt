@@ -1,4 +1,4 @@
--- The last effect on a block is that of its entry in the last transaction that has one.
+-- The last effect on a block is that of its last entry.
 use Rattle.std.proofs.Common.{inl, inr, refl, sym, ap, subst, ◌∙◌, arith, zero}
 use Rattle.std.specs.Prelude.{◌≡◌, ◌⊎◌, ◌↔◌, ℕ, suc, ◌<◌, ◌==◌, Bool, true, false, if◌then◌else◌, List, [], ◌∷◌, ◌++◌, map, Option, Some, None, slice_get, Contains}
 use Rattle.std.proofs.lemmas.Bool.{cases_eq}
@@ -19,11 +19,11 @@ entry-block (e ∷ es) b entry has =
       | inr behind ↦ contains-behind e.0 (map (λ e. e.0) es) b (entry-block es b entry behind)
     ]
 
--- entries of which none is of the block leave what was before
+-- entries without one of the block leave its effect
 abbrev KeepsEffect : ℕ → List (ℕ × Entry) → ℕ → Option LastEffect → Type 0
 KeepsEffect tid es b before = (last_among tid es b before ≡ before) × (Contains (map (λ e. e.0) es) b → ⊥)
 
--- and else one of them is the last
+-- otherwise one of them is the last
 record HasEntry (tid : ℕ) (es : List (ℕ × Entry)) (b : ℕ) (before : Option LastEffect) : Type 0 where
   entry : Entry
   has : Contains es (b, entry)
@@ -73,7 +73,7 @@ last-behind t ts b effect l = record {
     last zero later after stands among = absurd (omega arith)
     last (suc j) later after stands among = l.last j later (omega arith) stands among
 
--- transactions of which none has an entry of the block leave what was before, and else one of them is the last
+-- without an entry the effect stays, otherwise an entry is the last
 last-cases : (ts : List Batch) (b : ℕ) (before : Option LastEffect) →
     ((last_effect ts b before ≡ before) × HasNoEntry ts b) ⊎ ((effect : LastEffect) × HasLast ts b effect × (last_effect ts b before ≡ Some effect))
 last-cases [] b before = inl (refl, λ i t stands has. none-some t stands)
@@ -98,7 +98,7 @@ none-entered ts b = (
       ],
 )
 
--- and one has the last effect
+-- a last effect is that of an entry in the last such transaction
 pub some-last : (ts : List Batch) (b : ℕ) (effect : LastEffect) → last_effect ts b None ≡ Some effect → HasLast ts b effect
 some-last ts b effect is =
     elim (last-cases ts b None) [
@@ -106,7 +106,7 @@ some-last ts b effect is =
       | inr (other, l, some) ↦ subst (HasLast ts b) (same_Some other effect (sym some ∙ is)) l
     ]
 
--- one transaction more
+-- the last effect after one more transaction
 pub last-more : (ts : List Batch) (t : Batch) (b : ℕ) (before : Option LastEffect) →
     last_effect (ts ++ t ∷ []) b before ≡ last_among t.tid t.entries b (last_effect ts b before)
 last-more [] t b before = refl

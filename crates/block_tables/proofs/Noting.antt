@@ -1,4 +1,4 @@
--- What notes of revokes cover, and that it is what a chain covers.
+-- What notes of revokes cover: the same as the chain.
 use Rattle.std.proofs.Common.{inl, inr, refl, sym, ap, subst, ◌∙◌, arith, cond, zero, ⊎_elim}
 use Rattle.std.specs.Prelude.{◌≡◌, ◌⊎◌, ◌↔◌, ℕ, suc, ◌+◌, ◌≤◌, Bool, true, false, List, [], ◌∷◌, map, Option, Some, None, Contains, slice_get}
 use Rattle.std.proofs.lemmas.Bool.{cases_eq, cases_lt}
@@ -15,7 +15,7 @@ use Rattle.log_model.specs.Text.{text_revokes}
 use Rattle.block_tables.specs.Revokes.{revoke_notes, revokes_of}
 use Rattle.block_tables.specs.Revokes.{BlockTable, Covers, greatest, noted, noted_all}
 
--- what an insertion leaves at its own block, and at another
+-- what an insertion leaves at its block
 pub get-own : (m : BlockTable) (b c v : ℕ) → b ≡ c → get (insert m b v) c ≡ Some v
 get-own m b c v same =
     let tie : eq_by_cmp nat_cmp c b ≡ true = grind (arith, nat_tests) in
@@ -39,7 +39,7 @@ greatest-known : (t : ℕ) (o : Option ℕ) (u : ℕ) → o ≡ Some u → u ≤
 greatest-known t None u is = absurd (none-some u is)
 greatest-known t (Some v) u is = let same : v ≡ u = same_Some v u is in grind arith
 
--- one more note
+-- what one more note covers
 pub note-covers : (m : BlockTable) (b u c t : ℕ) → Covers (noted m b u) c t ↔ (Covers m c t ⊎ ((b ≡ c) × (t ≤ u)))
 note-covers m b u c t = (to, from)
   where
@@ -78,7 +78,7 @@ note-covers m b u c t = (to, from)
 abbrev pub IsNoted : List (ℕ × ℕ) → ℕ → ℕ → Type 0
 IsNoted notes b t = (u : ℕ) × Contains notes (b, u) × (t ≤ u)
 
--- all notes, over a table that is there
+-- what notes over a table cover
 notes-cover : (m : BlockTable) (notes : List (ℕ × ℕ)) (b t : ℕ) → Covers (noted_all m notes) b t ↔ (Covers m b t ⊎ IsNoted notes b t)
 notes-cover m [] b t = (λ covers. inl covers, λ either. ⊎_elim (λ covers. covers) (λ none. absurd (contains-none (b, none.0) none.1)) either)
 notes-cover m (n ∷ ns) b t =
@@ -107,7 +107,7 @@ notes-cover m (n ∷ ns) b t =
           ]),
     )
 
--- and over none
+-- what notes over an empty table cover
 pub noted-cover : (notes : List (ℕ × ℕ)) (b t : ℕ) → Covers (noted_all empty notes) b t ↔ IsNoted notes b t
 noted-cover notes b t =
     let all = notes-cover empty notes b t in (
@@ -155,7 +155,7 @@ notes-from first (t ∷ ts) b u among =
           record { place = suc rest.place; text = rest.text; stands = rest.stands; revokes = rest.revokes; number = omega arith }
     ]
 
--- and each such text has one
+-- each text that revokes a block has a note
 notes-to : (first : ℕ) (texts : List Text) (b k : ℕ) (text : Text) → slice_get texts k ≡ Some text → Contains (text_revokes text) b →
     Contains (revoke_notes first texts) (b, first + k)
 notes-to first [] b k text stands revokes = absurd (none-some text stands)
@@ -169,7 +169,7 @@ notes-to first (t ∷ ts) b (suc k) text stands revokes =
     (subst (λ (n : ℕ). Contains (revoke_notes (suc first) ts) (b, n)) {x = suc first + k} {y = first + suc k} (omega arith)
     (notes-to (suc first) ts b k text stands revokes))
 
--- so what they cover is what the chain covers
+-- the notes cover what the chain covers
 pub revokes-cover : (first : ℕ) (texts : List Text) (i b : ℕ) → Covers (revokes_of first texts) b (first + i) ↔ IsCovered texts i b
 revokes-cover first texts i b =
     let all = noted-cover (revoke_notes first texts) b (first + i) in (

@@ -1,4 +1,4 @@
--- The place of the newest copy of a block among all copies of a chain, and what is brought home by it.
+-- The place of a block's newest copy in a chain, and what goes home by it.
 use Rattle.std.proofs.Common.{inl, inr, refl, sym, ap, subst, ◌∙◌, arith, zero}
 use Rattle.std.specs.Prelude.{◌≡◌, ◌⊎◌, ℕ, suc, ◌+◌, ◌-◌, ◌<◌, ◌≤◌, List, [], ◌∷◌, length, take, Some, slice_get}
 use Rattle.std.proofs.lemmas.Bool.{cases_eq, cases_lt}
@@ -45,7 +45,7 @@ none-behind : (b : ℕ) (copy : ℕ × List ℕ) (copies : Copies) → (copy.0 �
 none-behind b copy copies other none zero bytes there = other (ap (λ (c : ℕ × List ℕ). c.0) (same_Some copy (b, bytes) there))
 none-behind b copy copies other none (suc m) bytes there = none m bytes there
 
--- the place that is noted last for a block is that of its last copy
+-- the place noted last for a block is that of its last copy
 last-place : (m : BlockTable) (b p : ℕ) (copies : Copies) →
     (HasNoCopy b copies × (get (placed_all m (copy_notes p copies)) b ≡ get m b))
     ⊎ ((r : ℕ) × IsLastOf b copies r × (get (placed_all m (copy_notes p copies)) b ≡ Some (p + r)))
@@ -60,7 +60,7 @@ last-place m b p (c ∷ cs) =
       | inr (r, is, value) ↦ inr (suc r, last-behind b c cs r is, value ∙ ap Some {x = suc p + r} {y = p + suc r} (omega arith))
     ]
 
--- a copy of a text, among all copies
+-- a copy of a text stands among all copies
 copy-among : (texts : List Text) (i k : ℕ) (text : Text) (c : ℕ × List ℕ) → slice_get texts i ≡ Some text → slice_get (text_copies text) k ≡ Some c →
     slice_get (copies_of texts) (copy_place texts i k) ≡ Some c
 copy-among [] i k text c stands copy = absurd (none-some text stands)
@@ -115,7 +115,7 @@ place-rises (t ∷ ts) (suc i) (suc j) text stands before =
     let rest = place-rises ts i j text stands (omega arith) in
     omega (arith, length-append (text_copies t) (copies_of (take i ts)), length-append (text_copies t) (copies_of (take j ts)))
 
--- so a copy that stands no later is of an earlier text, or before it in the same one
+-- a copy that stands no later is in an earlier text, or earlier in the same
 place-order : (texts : List Text) (i k j m : ℕ) (text : Text) (c : ℕ × List ℕ) → slice_get texts i ≡ Some text → slice_get (text_copies text) k ≡ Some c →
     copy_place texts j m ≤ copy_place texts i k → (j < i) ⊎ ((j ≡ i) × (m ≤ k))
 place-order texts i k j m text c stands copy below =
@@ -137,7 +137,7 @@ place-order texts i k j m text c stands copy below =
 live-before : (texts : List Text) (b i k r : ℕ) (bytes : List ℕ) → IsLastOf b (copies_of texts) r → IsLive texts b i k bytes → copy_place texts i k ≤ r
 live-before texts b i k r bytes is live = is.last (copy_place texts i k) bytes (copy-among texts i k live.text (b, bytes) live.stands live.copy)
 
--- what is brought home is the newest
+-- what goes home is the newest live copy
 pub home-newest : (first : ℕ) (texts : List Text) (b i k : ℕ) (bytes : List ℕ) → GoesHome first texts b i k bytes → IsNewest texts b bytes
 home-newest first texts b i k bytes home =
     elim (last-place empty b 0 (copies_of texts)) [
@@ -159,7 +159,7 @@ home-newest first texts b i k bytes home =
           }
     ]
 
--- a block of which nothing is has no live copy
+-- a block of which nothing goes home has no live copy
 pub home-none : (first : ℕ) (texts : List Text) (b : ℕ) → ((i k : ℕ) (bytes : List ℕ) → GoesHome first texts b i k bytes → ⊥) → HasNoLive texts b
 home-none first texts b nothing j m other live =
     elim (last-place empty b 0 (copies_of texts)) [

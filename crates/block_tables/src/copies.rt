@@ -1,4 +1,4 @@
-//! Where the newest copy of each block stands.
+//! Which copy of each block is the newest of a chain.
 ghost use Rattle.std.specs.Prelude.{◌≡◌, IfErr, None, OnErr, OnOk};
 ghost use Rattle.std.specs.FinMap as map;
 ghost use Rattle.journal_model.specs.declared.refusal.JournalError.TheVariants.{Memory};
@@ -8,8 +8,8 @@ use std::alloc::{AllocError, Global};
 use std::collections::HashMap;
 use std::marker::Model;
 
-/// The place of the newest copy of each block: how many copies of the chain stand before it. Contracts see a map from each
-/// copied block to that place.
+/// For each copied block the number of copies before its newest one in the chain. Contracts see a map from blocks to
+/// these places.
 #[derive(Drop)]
 pub struct CopyTable {
     newest: HashMap<BlockNo, u64>,
@@ -37,12 +37,11 @@ impl CopyTable {
         }
     }
 
-    /// Notes the place of a copy of a block, which takes the place of the one that was noted before. So copies are noted in
-    /// the order of the chain.
+    /// Notes the place of a copy, over an earlier one of its block; copies come in chain order.
     ///
     /// # Errors
     ///
-    /// `Memory` where memory ran out: nothing is noted. A block that was noted before takes none.
+    /// `Memory`: nothing is noted. A block that has a place takes none.
     pub fn note(&mut self, block: BlockNo, place: u64) -> Result<(), JournalError>
         ensures ok { OnOk result (self.new ≡ map.insert self.old block place) }
         ensures refused { IfErr result (λ e. (e ≡ Memory) × (self.new ≡ self.old)) }
@@ -54,7 +53,7 @@ impl CopyTable {
         }
     }
 
-    /// The place that was noted last for a block.
+    /// The place noted last for a block.
     pub fn newest(&self, block: BlockNo) -> Option<u64>
         ensures { result ≡ map.get self.now block }
     {

@@ -1,4 +1,4 @@
-//! The last effect on each block.
+//! Which effect on each block is the last.
 ghost use Rattle.std.specs.Prelude.{◌≡◌, ◌↔◌, ◌≤◌, ℕ, IsTrue, None, [], length, IfErr, OnOk};
 ghost use Rattle.indexmap.specs.IndexMap.{spare};
 ghost use Rattle.journal_model.specs.declared.refusal.JournalError.TheVariants.{Memory};
@@ -9,17 +9,15 @@ use journal_model::{Batch, BlockNo, Entry, JournalError, Tid};
 use std::alloc::Global;
 use std::marker::Model;
 
-/// What the last entry of a block does to it.
+/// What the last entry of a block does.
 #[derive(Clone, Copy, Debug, PartialEq, Eq)]
 pub(crate) enum LastEffect {
-    /// It copies the block.
     Copied,
-    /// It revokes the block, in the transaction of this number.
+    /// It revokes the block, in this transaction.
     Revoked(Tid),
 }
 
 impl LastEffect {
-    /// What an entry of a transaction does to its block.
     fn of(tid: Tid, entry: &Entry) -> Self
         ensures { result ≡ effect_of tid entry.now }
     {
@@ -30,8 +28,7 @@ impl LastEffect {
     }
 }
 
-/// The last effect on each block that was noted. Contracts see how many further blocks can be noted without memory, and the
-/// effects, each block's once.
+/// The last effect on each noted block. Contracts see how many more blocks can be noted without memory, and these effects.
 #[derive(Drop)]
 pub struct LastEffects {
     effects: IndexMap<BlockNo, LastEffect>,
@@ -56,11 +53,11 @@ impl LastEffects {
         }
     }
 
-    /// Makes room for so many further blocks.
+    /// Reserves memory for so many further blocks.
     ///
     /// # Errors
     ///
-    /// `Memory`. No effect changes, however it ends.
+    /// `Memory`. No effect changes, whatever the answer.
     pub fn reserve(&mut self, blocks: usize) -> Result<(), JournalError>
         ensures ok { OnOk result (blocks ≤ self.new.room) }
         ensures err { IfErr result (λ e. e ≡ Memory) }
@@ -70,8 +67,7 @@ impl LastEffects {
         Ok(())
     }
 
-    /// Notes the entries of a transaction that is handed over, for which there is room. Transactions are noted in their order.
-    /// It takes no memory, and time in proportion to the entries.
+    /// Notes the entries of the next transaction handed over, in reserved memory and in time proportional to them.
     pub fn note(&mut self, batch: &Batch)
         requires { length batch.now.entries ≤ self.old.room }
         ensures { (b : ℕ) → effect_on self.new b ≡ last_among batch.now.tid batch.now.entries b (effect_on self.old b) }
@@ -82,9 +78,8 @@ impl LastEffects {
         }
     }
 
-    /// Whether a block is left to home, where of the transactions that were noted just those numbered below `next` are
-    /// committed: it has no entry, or the last one is a revoke and committed. It takes no memory, and does not look at any
-    /// transaction.
+    /// Whether a block is left to home, if exactly the noted transactions below `next` are committed: it has no entry, or its
+    /// last one is a committed revoke. One look-up.
     pub fn is_left_to_home(&self, block: BlockNo, next: Tid) -> bool
         ensures { IsTrue result ↔ IsLeft (effect_on self.now block) next }
     {

@@ -1,8 +1,7 @@
-//! Tables by block. An opening notes a chain's revokes and copies in two of them before it writes home; an engine notes in
-//! the third what the last entry of each block does to it, so that one look-up tells whether the block may be written past the log.
+//! Tables by block: the revokes and copies of a chain, for an opening, and the last effect on each block, for direct writes.
 //!
-//! All are hash tables: they take memory in proportion to the blocks that were noted, each counted once, and a call takes
-//! constant time on average, where the hashes of the blocks are spread evenly.
+//! They are hash tables, with memory proportional to the noted blocks, and constant time a call on average if the hashes spread
+//! evenly.
 #![tactic(auto)]
 
 mod copies;

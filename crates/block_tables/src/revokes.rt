@@ -1,4 +1,4 @@
-//! The greatest transaction that revokes each block.
+//! Which transaction is the last to revoke each block.
 ghost use Rattle.std.specs.Prelude.{◌≡◌, ◌↔◌, IsTrue, IfErr, None, OnErr, OnOk};
 ghost use Rattle.std.specs.FinMap as map;
 ghost use Rattle.journal_model.specs.declared.refusal.JournalError.TheVariants.{Memory};
@@ -9,8 +9,8 @@ use std::alloc::{AllocError, Global};
 use std::collections::HashMap;
 use std::marker::Model;
 
-/// Which copies an opening leaves out: those that were revoked behind them, or in their own transaction. Contracts see a
-/// map from each revoked block to the greatest transaction that revokes it.
+/// An opening leaves out the copies revoked in their own or a later transaction. Contracts see a map from each revoked block to
+/// the greatest transaction that revokes it.
 /// Source: fs/jbd2/revoke.c by behaviour.
 #[derive(Drop)]
 pub struct RevokeTable {
@@ -39,11 +39,11 @@ impl RevokeTable {
         }
     }
 
-    /// Notes that a transaction revokes a block. Revokes may be noted in any order: of several the greatest transaction counts.
+    /// Notes that a transaction revokes a block, in any order: the greatest transaction counts.
     ///
     /// # Errors
     ///
-    /// `Memory` where memory ran out: nothing is noted. A block that was noted before takes none.
+    /// `Memory`: nothing is noted. A block that was noted before takes none.
     pub fn note(&mut self, block: BlockNo, tid: Tid) -> Result<(), JournalError>
         ensures ok { OnOk result (self.new ≡ noted self.old block tid) }
         ensures refused { IfErr result (λ e. (e ≡ Memory) × (self.new ≡ self.old)) }
@@ -58,8 +58,7 @@ impl RevokeTable {
         }
     }
 
-    /// Whether a copy of the block in this transaction is covered: that it is revoked was noted of this transaction or of a
-    /// later one.
+    /// Whether a copy of the block in this transaction is covered: a revoke in it or a later one was noted.
     pub fn covers(&self, block: BlockNo, tid: Tid) -> bool
         ensures { IsTrue result ↔ Covers self.now block tid }
     {

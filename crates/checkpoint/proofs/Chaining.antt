@@ -1,4 +1,4 @@
--- The chains of links: one link fewer, one more, and where a chain does not lead to a copy.
+-- Chains with one link fewer or more, and blocks that a chain does not lead to.
 use Rattle.std.proofs.Common.{◌≡◌, ◌⊎◌, inl, inr, ℕ, zero, suc, ◌+◌, ◌%◌, ◌^◌, ◌<◌, ◌≤◌, true, false, List, [], ◌∷◌, ◌++◌, length, set, map, arith, refl, sym, ap, subst, ◌∙◌, Some, length-append, true≢false}
 use Rattle.std.specs.List.{slice_get}
 use Rattle.std.specs.Option.{option_map}
@@ -39,7 +39,7 @@ chained-rest b n bs ns lasts first fits old =
       befores_show = λ k h number here is. shows-rest b bs h (place_of first number) _ k (λ j leads. place-before first number j fits leads) (old.befores_show (suc k) h number here is);
     }
 
--- with one more link behind the limit
+-- a chain with one more link after the limit
 shows-more : (bs : List ℕ) (b h p limit : ℕ) → limit ≤ length bs → Shows bs h p limit → Shows (bs ++ b ∷ []) h p limit
 shows-more bs b h p limit within s =
     record {
@@ -134,7 +134,7 @@ module _ (n b : ℕ) (copies : List QueuedCopy) (p limit : ℕ) (s : Shows (buck
         | inr above ↦ absurd (true≢false (sym live ∙ behind j c above here))
       ]
 
-  -- behind the place that is shown no copy of the block is live
+  -- after the place that is shown no copy of the block is live
   pub none-behind : (j : ℕ) (c : QueuedCopy) → p < j → slice_get copies j ≡ Some c → is_live_of b c ≡ false
   none-behind j c after here =
       elim (cases_Bool (is_live_of b c)) [
@@ -142,7 +142,7 @@ module _ (n b : ℕ) (copies : List QueuedCopy) (p limit : ℕ) (s : Shows (buck
         | inr dead ↦ dead
       ]
 
-  -- where no link of the bucket is shown, none is live
+  -- if no link of the bucket is shown, no copy is live
   pub none-shown : ((p < limit) → slice_get (buckets_of n copies) p ≡ Some (bucket_of n b) → ⊥) → (j : ℕ) (c : QueuedCopy) → slice_get copies j ≡ Some c → is_live_of b c ≡ false
   none-shown absent j c here =
       elim (cases_Bool (is_live_of b c)) [
@@ -150,7 +150,7 @@ module _ (n b : ℕ) (copies : List QueuedCopy) (p limit : ℕ) (s : Shows (buck
         | inr dead ↦ dead
       ]
 
-  -- nor from there on, where the copy there is not
+  -- nor from there on, if the copy there is not
   pub none-from : (d : QueuedCopy) → slice_get copies p ≡ Some d → is_live_of b d ≡ false →
       (j : ℕ) (c : QueuedCopy) → p ≤ j → slice_get copies j ≡ Some c → is_live_of b c ≡ false
   none-from d there dead j c from here =
@@ -167,18 +167,18 @@ link-at links k l here = (
   slice_get-map (λ (m : Link). m.before) links k ∙ ap (option_map (λ (m : Link). m.before)) here,
 )
 
--- a withdrawal moves no copy to another bucket
+-- a withdrawal keeps each copy in its bucket
 pub buckets-withdrawn : (n b : ℕ) (copies : List QueuedCopy) → buckets_of n (map (withdrawn b) copies) ≡ buckets_of n copies
 buckets-withdrawn n b [] = refl
 buckets-withdrawn n b (c ∷ cs) = ap (λ (rest : List ℕ). bucket_of n c.block ∷ rest) (buckets-withdrawn n b cs)
 
--- a link with another copy leads where it led
+-- a link with another copy leads to the same link
 pub befores-set : (links : List Link) (k : ℕ) (l m : Link) → slice_get links k ≡ Some l → m.before ≡ l.before → befores_of (set links k m) ≡ befores_of links
 befores-set [] k l m here same = refl
 befores-set (x ∷ links) zero l m here same = let one : x ≡ l = cc in ap (λ (n : ℕ). n ∷ befores_of links) (same ∙ ap (λ (y : Link). y.before) (sym one))
 befores-set (x ∷ links) (suc k) l m here same = ap (λ (ns : List ℕ). x.before ∷ ns) (befores-set links k l m here same)
 
--- the buckets of one copy more
+-- the buckets with one more copy
 pub buckets-more : (n : ℕ) (copies : List QueuedCopy) (c : QueuedCopy) → buckets_of n (copies ++ c ∷ []) ≡ buckets_of n copies ++ bucket_of n c.block ∷ []
 buckets-more n copies c = map_push (λ (d : QueuedCopy). bucket_of n d.block) copies c
 

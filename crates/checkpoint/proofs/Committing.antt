@@ -1,4 +1,4 @@
--- What a commit makes of pending copies.
+-- How a commit changes pending copies.
 use Rattle.std.proofs.Common.{◌≡◌, inl, inr, ℕ, ◌+◌, ◌<◌, ◌≤◌, false, not, List, [], ◌∷◌, ◌++◌, length, map, drop, arith, refl, sym, ap, ap₂, subst, ◌∙◌, Option, Some, None, nat_eq, get_or, true≢false}
 use Rattle.std.specs.List.{AllByRecursion, Contains, IsDistinct, filter, slice_get}
 use Rattle.std.specs.List.Sorted.{IsNonDecreasingBy, IsPermutation, IsSorted}
@@ -24,7 +24,7 @@ use Rattle.checkpoint.proofs.Newest.{newest-behind, newest-front}
 use Rattle.checkpoint.proofs.Ordered.{listed-tid, ordered-append, ordered-listed}
 use Rattle.checkpoint.proofs.Withdrawn.{dead-withdrawn_all, drop-withdrawn_all, keys-withdrawn_all, live-withdrawn_all, newest-touched, newest-untouched}
 
--- the newest copy of a block that joined lists have, where the second has none
+-- a block's newest copy in joined lists, if the second has none
 newest-first : (b : ℕ) (cs ds : List QueuedCopy) → newest_in ds b ≡ None → newest_in (cs ++ ds) b ≡ newest_in cs b
 newest-first b cs ds none =
     elim (option-known (newest_in cs b)) [
@@ -32,7 +32,7 @@ newest-first b cs ds none =
       | inr (v, some) ↦ newest-front b v cs ds some ∙ sym some
     ]
 
--- the keys of added copies, all of which are live
+-- the keys of added copies, which are all live
 keys-fresh : (tid : ℕ) (ps : List (ℕ × ℕ)) → map key_of (map (fresh tid) ps) ≡ map {B = ℕ × ℕ} (λ p. (tid, p.0)) ps
 keys-fresh tid [] = refl
 keys-fresh tid (p ∷ ps) = ap (λ (ks : List (ℕ × ℕ)). (tid, p.0) ∷ ks) (keys-fresh tid ps)
@@ -41,7 +41,7 @@ live-fresh : (tid : ℕ) (ps : List (ℕ × ℕ)) → filter (λ c. c.live) (map
 live-fresh tid [] = refl
 live-fresh tid (p ∷ ps) = ap (λ (cs : List QueuedCopy). fresh tid p ∷ cs) (live-fresh tid ps)
 
--- the test for numbers does not mind their order
+-- the test for equal numbers is symmetric
 eq-flips : (a b : ℕ) → nat_eq a b ≡ nat_eq b a
 eq-flips a b = grind (arith, nat_tests)
 
@@ -62,7 +62,7 @@ none-listed entries cs ps k p listed here =
     let copy = entry-listed entries ps p listed (k, slice_get_within ps k p here, get_or_from_slice_get ps k p p here) in
     newest-touched p.0 entries cs (touched-at entries copy.at (p.0, Copy copy.bytes) copy.entry)
 
--- listed copies in order, by block and then place, do not fall in their blocks
+-- the blocks of listed copies in order do not fall
 block-below : (a b c d : ℕ) → is_lt (ordering_then (nat_cmp b a) (nat_cmp d c)) ≡ false → a ≤ b
 block-below a b c d sorted = grind (arith, nat_tests)
 
@@ -77,7 +77,7 @@ length-withdrawn_all bs cs =
     let same = ap length (keys-withdrawn_all bs cs) in
     omega (arith, length-map (withdrawn_all bs cs) key_of, length-map cs key_of)
 
--- the steps of a commit of these entries, whose copies are listed by block
+-- the steps of a commit, with its copies listed by block
 pub record Commits (old : Inside) (entries : List (ℕ × Entry)) (tid : ℕ) (ps : List (ℕ × ℕ)) (new : Inside) : Type 0 where
   pub kept : KeepsPending old
   pub distinct : IsDistinct nat_eq (map (λ e. e.0) entries)
@@ -141,7 +141,7 @@ module _ (old : Inside) (entries : List (ℕ × Entry)) (tid : ℕ) (ps : List (
       ap (map key_of) s.all ∙ map-append key_of stay come
       ∙ ap₂ (λ (ks ls : List (ℕ × ℕ)). ks ++ ls) (keys-withdrawn_all (map (λ e. e.0) entries) old.copies.copies) (keys-fresh tid ps)
 
-  -- the keys of the copies that are not written home
+  -- the keys of the copies not written home
   unwritten-is : map key_of (live_from new.unwritten new.copies.copies)
       ≡ filter (λ k. not (is_touched entries k.1)) (map key_of (live_from old.unwritten old.copies.copies)) ++ map {B = ℕ × ℕ} (λ p. (tid, p.0)) ps
   unwritten-is =

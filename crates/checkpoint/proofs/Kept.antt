@@ -20,7 +20,7 @@ use Rattle.checkpoint.proofs.Newest.{live-block, newest-found}
 use Rattle.checkpoint.proofs.Ordered.{ordered-drop, ordered-live}
 use Rattle.checkpoint.proofs.Released.{filter-no, filter-yes, get-drop}
 
--- numbers tie in their order where they are equal
+-- numbers tie in their order if they are equal
 tie-same : (a b : ℕ) → eq_by_cmp nat_cmp a b ≡ (b == a)
 tie-same a b = grind (arith, nat_tests)
 
@@ -35,7 +35,7 @@ get-if : (live : Bool) (m : FinMap nat_cmp Version) (c b : ℕ) (v : Version) �
 get-if true m c b v = get-insert nat_cmp_total m c v b ∙ ap (λ (t : Bool). cond t (Some v) (get m b)) (tie-same b c)
 get-if false m c b v = refl
 
--- the map of the live copies has at a block where its newest copy stands
+-- the map of the live copies gives each block's newest copy
 pub newest-map : (cs : List QueuedCopy) (b : ℕ) → get (newest_map cs) b ≡ newest_in cs b
 newest-map [] b = get-empty nat_cmp b
 newest-map (c ∷ cs) b =
@@ -62,7 +62,7 @@ newest-at (c ∷ cs) b v newest =
           record { at = suc rest.at; copy = rest.copy; there = rest.there; live = rest.live; version = rest.version }
     ]
 
--- an element of a list is one of the list that f makes of it
+-- an element of a list gives an element of its map
 contains-map : {X Y : Type 0} (f : X → Y) (xs : List X) (k : ℕ) (x : X) → slice_get xs k ≡ Some x → Contains (map f xs) (f x)
 contains-map f [] k x there = absurd cc
 contains-map f (y ∷ xs) zero x there = let one : y ≡ x = cc in contains-first (f y) (map f xs) (f x) (ap f one)
@@ -96,7 +96,7 @@ live-from_at n cs k there =
     let found = live-at (drop n cs) k there in
     record { at = n + found.at; copy = found.copy; there = sym (get-drop n cs found.at) ∙ found.there; live = found.live; key = found.key }
 
--- what the fields keep is what contracts tell
+-- what the fields keep implies what contracts see
 pub kept-pending : (p : Inside) → KeepsPending p → ArePending (pending_of p)
 kept-pending p k =
     let cs = p.copies.copies in
@@ -117,7 +117,7 @@ kept-pending p k =
       ordered_unwritten = ordered-live (drop p.unwritten cs) (ordered-drop p.unwritten cs k.ordered);
     }
 
--- the live copies from a place on, where those before the next place are not live
+-- live copies from a place on, if none is live up to the next
 pub live-skip : (i j : ℕ) (cs : List QueuedCopy) → i ≤ j → AreDead cs i j → live_from j cs ≡ live_from i cs
 live-skip zero zero cs le dead = refl
 live-skip zero (suc j) [] le dead = refl
@@ -130,13 +130,13 @@ live-skip (suc i) zero (c ∷ cs) le dead = absurd (omega arith)
 live-skip (suc i) (suc j) (c ∷ cs) le dead =
     live-skip i j cs (omega arith) (record { dead = λ k d after below there. dead.dead (suc k) d (omega arith) (omega arith) there })
 
--- the first live copy from a place on, where the copy there is live
+-- the first live copy from a place on, if that one is live
 pub live-first : (n : ℕ) (cs : List QueuedCopy) (c : QueuedCopy) → slice_get cs n ≡ Some c → c.live ≡ true → live_from n cs ≡ c ∷ live_from (n + 1) cs
 live-first n [] c there live = absurd cc
 live-first zero (d ∷ cs) c there live = let one : d ≡ c = cc in ap (λ (x : QueuedCopy). filter (λ y. y.live) (x ∷ cs)) one ∙ filter-yes (λ (y : QueuedCopy). y.live) c cs live
 live-first (suc n) (d ∷ cs) c there live = live-first n cs c there live ∙ ap (λ (m : ℕ). c ∷ live_from m (d ∷ cs)) {x = suc (n + 1)} {y = suc n + 1} (omega arith)
 
--- at the end none is left
+-- at the end no live copy is left
 pub live-end : (n : ℕ) (cs : List QueuedCopy) → length cs ≤ n → live_from n cs ≡ []
 live-end n cs end = ap (filter (λ (c : QueuedCopy). c.live)) (drop_all n cs end)
 
@@ -151,7 +151,7 @@ newest-live p n c k here live =
     newest-map p.copies.copies c.block
     ∙ newest-found c.block p.copies.copies n c k.copies.single here (and_from c.live (c.block == c.block) live (eq-eqb c.block c.block refl))
 
--- no copy is live before a place
+-- joined ranges without live copies have none
 pub dead-join : (cs : List QueuedCopy) (i j k : ℕ) → AreDead cs i j → AreDead cs j k → AreDead cs i k
 dead-join cs i j k first second =
     record {
@@ -162,6 +162,6 @@ dead-join cs i j k first second =
           ];
     }
 
--- nor in a longer list
+-- a longer list has none there either
 pub dead-append : (cs ds : List QueuedCopy) (i j : ℕ) → j ≤ length cs → AreDead cs i j → AreDead (cs ++ ds) i j
 dead-append cs ds i j within old = record { dead = λ n c after below here. old.dead n c after below (sym (get-front cs ds n (omega arith)) ∙ here) }

@@ -1,4 +1,4 @@
--- The copies among a transaction's entries: how many, where each stands, and what the newest of a block is once they are added.
+-- The copies among entries: their number, their places, and the newest of a block after them.
 use Rattle.std.proofs.Common.{◌≡◌, inl, inr, ℕ, zero, suc, ◌+◌, true, false, ◌==◌, List, [], ◌∷◌, length, map, take, arith, refl, sym, ap, ap₂, subst, ◌∙◌, Some, None, nat_eq, true≢false, eq-eqb}
 use Rattle.std.specs.List.{AllByRecursion, Contains, IsDistinct, slice_get}
 use Rattle.std.proofs.lemmas.Bool.{ne_eqb, or_left, or_right}
@@ -50,7 +50,7 @@ pub record IsCopyAt (k : ℕ) (p : ℕ × ℕ) (es : List (ℕ × Entry)) : Type
   pub place : p.1 ≡ k + at
   pub entry : slice_get es at ≡ Some (p.0, Copy bytes)
 
--- the same with one more entry before
+-- the same with one more entry in front
 copy-behind : (k : ℕ) (p : ℕ × ℕ) (e : ℕ × Entry) (es : List (ℕ × Entry)) → IsCopyAt (k + 1) p es → IsCopyAt k p (e ∷ es)
 copy-behind k p e es c = record { at = suc c.at; bytes = c.bytes; place = omega (arith, c.place); entry = c.entry }
 
@@ -73,7 +73,7 @@ each-place P k [] all = tt
 each-place P k ((b, Copy v) ∷ es) all = (all.0, each-place P (k + 1) es all.1)
 each-place P k ((b, Revoke) ∷ es) all = each-place P (k + 1) es all.1
 
--- the copies' blocks are distinct where all are
+-- the blocks of copies are distinct if all are
 pub distinct-places : (k : ℕ) (es : List (ℕ × Entry)) → IsDistinct nat_eq (map (λ e. e.0) es) → IsDistinct nat_eq (map (λ p. p.0) (places_of k es))
 distinct-places k [] distinct = distinct
 distinct-places k ((b, Copy v) ∷ es) distinct =
@@ -82,13 +82,13 @@ distinct-places k ((b, Copy v) ∷ es) distinct =
     (distinct-places (k + 1) es (IsDistinct-tail nat_eq b (map (λ e. e.0) es) distinct))
 distinct-places k ((b, Revoke) ∷ es) distinct = distinct-places (k + 1) es (IsDistinct-tail nat_eq b (map (λ e. e.0) es) distinct)
 
--- an element behind is of another block
+-- an element after is of another block
 apart-behind : {X : Type 0} (b : ℕ) (xs : List (ℕ × X)) (j : ℕ) (x : ℕ × X) → AllByRecursion (λ y. nat_eq b y ≡ false) (map (λ e. e.0) xs) → slice_get xs j ≡ Some x → nat_eq b x.0 ≡ false
 apart-behind b [] j x all there = absurd cc
 apart-behind b (y ∷ xs) zero x all there = let same : y ≡ x = cc in ap (λ (e : ℕ × _). nat_eq b e.0) (sym same) ∙ all.0
 apart-behind b (y ∷ xs) (suc j) x all there = apart-behind b xs j x all.1 there
 
--- a block has one place among distinct ones
+-- distinct blocks have one place each
 pub one-place : {X : Type 0} (xs : List (ℕ × X)) (i j : ℕ) (x y : ℕ × X) → IsDistinct nat_eq (map (λ e. e.0) xs) → slice_get xs i ≡ Some x → slice_get xs j ≡ Some y → x.0 ≡ y.0 → i ≡ j
 one-place [] i j x y distinct here there same = absurd cc
 one-place (z ∷ xs) zero zero x y distinct here there same = refl

@@ -1,4 +1,4 @@
--- The live copy of a block in a list of copies: where it is found, and what a withdrawal and one more copy change.
+-- The live copy of a block in a list, and how a withdrawal and one more copy change it.
 use Rattle.std.proofs.Common.{◌≡◌, inl, inr, ℕ, zero, suc, Bool, true, false, not, ◌&&◌, ◌==◌, List, [], ◌∷◌, ◌++◌, set, map, arith, refl, sym, ap, ◌∙◌, Some, None}
 use Rattle.std.specs.List.{slice_get}
 use Rattle.std.proofs.lemmas.Bool.{and_parts, cases_Bool, cases_eq, eqb-true}
@@ -12,7 +12,7 @@ use Rattle.checkpoint.specs.Copies.{IsSingle, is_live_of, newest_in, version_of,
 pub live-block : (b : ℕ) (c : QueuedCopy) → is_live_of b c ≡ true → (c.live ≡ true) × (c.block ≡ b)
 live-block b c live = let p = and_parts c.live _ live in (p.0, eqb-true c.block b p.1)
 
--- where no copy of a block is live, none is its newest
+-- if no copy of a block is live, it has no newest one
 pub newest-none : (b : ℕ) (cs : List QueuedCopy) → ((j : ℕ) (c : QueuedCopy) → slice_get cs j ≡ Some c → is_live_of b c ≡ false) → newest_in cs b ≡ None
 newest-none b [] dead = refl
 newest-none b (c ∷ cs) dead = rw (dead 0 c refl) (newest-none b cs (λ j d here. dead (suc j) d here))
@@ -32,7 +32,7 @@ newest-found b (d ∷ cs) (suc k) c single here live =
       | inr other ↦ rw other rest
     ]
 
--- a copy that is not live, or of another block, stays as it is
+-- a dead copy, or one of another block, stays as it is
 withdrawn-other : (b : ℕ) (c : QueuedCopy) → is_live_of b c ≡ false → withdrawn b c ≡ c
 withdrawn-other b c other =
     let same : (c.live && not (c.block == b)) ≡ c.live = grind (arith, nat_tests) in
@@ -42,7 +42,7 @@ withdrawn-other b c other =
 same-cons : {c d : QueuedCopy} {cs ds : List QueuedCopy} → c ≡ d → cs ≡ ds → c ∷ cs ≡ d ∷ ds
 same-cons e f = cc
 
--- where no copy of a block is live, a withdrawal changes nothing
+-- if no copy of a block is live, a withdrawal changes nothing
 pub withdrawn-none : (b : ℕ) (cs : List QueuedCopy) → newest_in cs b ≡ None → map (withdrawn b) cs ≡ cs
 withdrawn-none b [] none = refl
 withdrawn-none b (c ∷ cs) none =
@@ -83,7 +83,7 @@ newest-withdrawn b (c ∷ cs) =
     let dead : is_live_of b (withdrawn b c) ≡ false = grind (arith, nat_tests) in
     rw dead (newest-withdrawn b cs)
 
--- and each other block keeps its own
+-- another block keeps its newest copy
 pub newest-withdrawn_other : (a b : ℕ) (cs : List QueuedCopy) → (a ≡ b → ⊥) → newest_in (map (withdrawn b) cs) a ≡ newest_in cs a
 newest-withdrawn_other a b [] apart = refl
 newest-withdrawn_other a b (c ∷ cs) apart =
@@ -103,7 +103,7 @@ single-withdrawn b (c ∷ cs) single = (
   single-withdrawn b cs single.1,
 )
 
--- the newest copy of a block, where the first of joined lists has none
+-- a block's newest copy in joined lists, if the first has none
 pub newest-behind : (b : ℕ) (cs ds : List QueuedCopy) → newest_in cs b ≡ None → newest_in (cs ++ ds) b ≡ newest_in ds b
 newest-behind b [] ds none = refl
 newest-behind b (c ∷ cs) ds none =
@@ -112,7 +112,7 @@ newest-behind b (c ∷ cs) ds none =
       | inr other ↦ rw other (newest-behind b cs ds (rw other at none))
     ]
 
--- and where it has one
+-- a block's newest copy in joined lists, if the first has one
 pub newest-front : (b : ℕ) (v : Version) (cs ds : List QueuedCopy) → newest_in cs b ≡ Some v → newest_in (cs ++ ds) b ≡ Some v
 newest-front b v [] ds some = absurd (none-some v some)
 newest-front b v (c ∷ cs) ds some =
@@ -121,7 +121,7 @@ newest-front b v (c ∷ cs) ds some =
       | inr other ↦ rw other (newest-front b v cs ds (rw other at some))
     ]
 
--- one more copy, of a block that has no live one
+-- one more copy of a block without a live one keeps copies single
 pub single-more : (cs : List QueuedCopy) (d : QueuedCopy) → IsSingle cs → newest_in cs d.block ≡ None → IsSingle (cs ++ d ∷ [])
 single-more [] d single none = (λ _. refl, tt)
 single-more (c ∷ cs) d single none =

@@ -16,7 +16,7 @@ each-behind : (tid : ℕ) (k : ℕ × ℕ) (ls : List (ℕ × ℕ)) → k.0 < ti
 each-behind tid k [] lower same = tt
 each-behind tid k (l ∷ ls) lower same = (inl (omega (arith, same.0)), each-behind tid k ls lower same.1)
 
--- joined lists are in order where each key of the first is of a lower transaction than those of the second
+-- joined lists are in order if the first is of lower transactions
 pub ordered-append : (tid : ℕ) (ks ls : List (ℕ × ℕ)) → IsOrdered ks → IsOrdered ls → AllByRecursion (λ k. k.0 < tid) ks → AllByRecursion (λ l. l.0 ≡ tid) ls → IsOrdered (ks ++ ls)
 ordered-append tid [] ls ordered behind lower same = behind
 ordered-append tid (k ∷ ks) ls ordered behind lower same =
@@ -28,7 +28,7 @@ ordered-drop zero cs ordered = ordered
 ordered-drop (suc n) [] ordered = tt
 ordered-drop (suc n) (c ∷ cs) ordered = ordered-drop n cs ordered.1
 
--- a key that stands before all stands before those of the live copies
+-- a key before all is before those of the live copies
 each-live : (k : ℕ × ℕ) (cs : List QueuedCopy) → AllByRecursion (Before k) (map key_of cs) →
     AllByRecursion (Before k) (map key_of (filter (λ c. c.live) cs))
 each-live k [] before = tt
@@ -38,7 +38,7 @@ each-live k (c ∷ cs) before =
       | inr dead ↦ rw dead (each-live k cs before.1)
     ]
 
--- keys in order stay so without those of copies that are not live
+-- keys in order stay so without those of dead copies
 pub ordered-live : (cs : List QueuedCopy) → IsOrdered (map key_of cs) → IsOrdered (map key_of (filter (λ c. c.live) cs))
 ordered-live [] ordered = tt
 ordered-live (c ∷ cs) ordered =
@@ -47,7 +47,7 @@ ordered-live (c ∷ cs) ordered =
       | inr dead ↦ rw dead (ordered-live cs ordered.1)
     ]
 
--- a copy behind is of no lower transaction
+-- a later copy is of no lower transaction
 tid-behind : (c : QueuedCopy) (cs : List QueuedCopy) (j : ℕ) (d : QueuedCopy) → AllByRecursion (Before (key_of c)) (map key_of cs) → slice_get cs j ≡ Some d → c.tid ≤ d.tid
 tid-behind c [] j d all there = absurd cc
 tid-behind c (e ∷ cs) zero d all there =
@@ -72,7 +72,7 @@ tids-rise (x ∷ cs) zero (suc j) c d ordered le here there =
 tids-rise (x ∷ cs) (suc i) zero c d ordered le here there = absurd (omega arith)
 tids-rise (x ∷ cs) (suc i) (suc j) c d ordered le here there = tids-rise cs i j c d ordered.1 (omega arith) here there
 
--- the first of blocks that do not fall stands before the others, where they are distinct
+-- the first of sorted distinct blocks is before the others
 each-above : (tid b : ℕ) (ps : List (ℕ × ℕ)) → AllByRecursion (λ y. nat_eq b y ≡ false) (map (λ p. p.0) ps) → ((j : ℕ) (p : ℕ × ℕ) → slice_get ps j ≡ Some p → b ≤ p.0) →
     AllByRecursion (Before (tid, b)) (map {B = ℕ × ℕ} (λ p. (tid, p.0)) ps)
 each-above tid b [] apart rises = tt
@@ -81,7 +81,7 @@ each-above tid b (p ∷ ps) apart rises =
     let other : b ≡ p.0 → ⊥ = eqb-false b p.0 apart.0 in
     (inr (refl, omega arith), each-above tid b ps apart.1 (λ j q there. rises (suc j) q there))
 
--- keys of one transaction are in order where its blocks are sorted and distinct
+-- sorted distinct blocks of one transaction have keys in order
 pub ordered-listed : (tid : ℕ) (ps : List (ℕ × ℕ)) → IsNonDecreasingBy (λ p. p.0) ps → IsDistinct nat_eq (map (λ p. p.0) ps) → IsOrdered (map {B = ℕ × ℕ} (λ p. (tid, p.0)) ps)
 ordered-listed tid [] sorted distinct = tt
 ordered-listed tid (p ∷ ps) sorted distinct = (

@@ -1,4 +1,4 @@
--- What a release keeps: the copies behind the first ones, which are those of higher transactions.
+-- A release keeps the copies of higher transactions, which follow the first ones.
 use Rattle.std.proofs.Common.{◌≡◌, inl, inr, ℕ, zero, suc, ◌+◌, ◌-◌, ◌<◌, ◌≤◌, Bool, true, false, cond, List, [], ◌∷◌, length, map, drop, arith, refl, sym, ap, ◌∙◌, Some, None, nat_lt}
 use Rattle.std.specs.List.{filter, slice_get}
 use Rattle.std.proofs.lemmas.Bool.{cases_Bool, le-ltb, lt-ltb}
@@ -18,18 +18,18 @@ get-within [] k below = absurd (omega arith)
 get-within (x ∷ xs) zero below = (x, refl)
 get-within (x ∷ xs) (suc k) below = get-within xs k (omega arith)
 
--- an element behind the first ones
+-- an element after the first ones
 pub get-drop : {X : Type 0} (n : ℕ) (xs : List X) (k : ℕ) → slice_get (drop n xs) k ≡ slice_get xs (n + k)
 get-drop zero xs k = ap (slice_get xs) (omega arith)
 get-drop (suc n) [] k = refl
 get-drop (suc n) (x ∷ xs) k = get-drop n xs k ∙ ap (slice_get (x ∷ xs)) {x = suc (n + k)} {y = suc n + k} (omega arith)
 
--- the first n copies are of transactions up to the bound, and all others of higher ones
+-- the first n copies are of transactions up to the bound, the others above
 pub record Splits (bound n : ℕ) (cs : List QueuedCopy) : Type 0 where
   pub below : (k : ℕ) (c : QueuedCopy) → k < n → slice_get cs k ≡ Some c → c.tid ≤ bound
   pub above : (k : ℕ) (c : QueuedCopy) → n ≤ k → slice_get cs k ≡ Some c → bound < c.tid
 
--- where the copies are in order, the first higher one parts them
+-- the first higher transaction splits copies in order
 pub splits : (bound n : ℕ) (cs : List QueuedCopy) → IsOrdered (map key_of cs) → Releases bound cs n → Splits bound n cs
 splits bound n cs ordered r =
     record {
@@ -52,7 +52,7 @@ splits-drop bound n k cs s =
 abbrev pub above : ℕ → List QueuedCopy → List QueuedCopy
 above bound cs = filter (λ c. nat_lt bound c.tid) cs
 
--- they are those behind the first ones
+-- they are those after the first n
 pub above-drop : (bound n : ℕ) (cs : List QueuedCopy) → Splits bound n cs → above bound cs ≡ drop n cs
 above-drop bound zero [] s = refl
 above-drop bound (suc n) [] s = refl
@@ -65,7 +65,7 @@ above-drop bound (suc n) (c ∷ cs) s =
     let rest : Splits bound n cs = record { below = λ k d before here. s.below (suc k) d (omega arith) here; above = λ k d behind here. s.above (suc k) d (omega arith) here } in
     rw lower (above-drop bound n cs rest)
 
--- from a place on they are those from the place that it moves to
+-- from a place on they are those from the place that it becomes
 pub above-drop_from : (bound n k : ℕ) (cs : List QueuedCopy) → Splits bound n cs → above bound (drop k cs) ≡ drop (k - n) (drop n cs)
 above-drop_from bound n k cs s =
     let moved : k + (n - k) ≡ n + (k - n) = omega arith in
@@ -83,14 +83,14 @@ keys-above bound (c ∷ cs) =
       | inr lower ↦ rw lower (keys-above bound cs)
     ]
 
--- a filter at an element that passes, and at one that does not
+-- a filter at its first element
 pub filter-yes : {X : Type 0} (p : X → Bool) (x : X) (xs : List X) → p x ≡ true → filter p (x ∷ xs) ≡ x ∷ filter p xs
 filter-yes p x xs passes = ap (λ (b : Bool). cond b (x ∷ filter p xs) (filter p xs)) passes
 
 pub filter-no : {X : Type 0} (p : X → Bool) (x : X) (xs : List X) → p x ≡ false → filter p (x ∷ xs) ≡ filter p xs
 filter-no p x xs fails = ap (λ (b : Bool). cond b (x ∷ filter p xs) (filter p xs)) fails
 
--- two filters may change places
+-- filters commute
 pub filters-swap : {X : Type 0} (p q : X → Bool) (xs : List X) → filter p (filter q xs) ≡ filter q (filter p xs)
 filters-swap p q [] = refl
 filters-swap p q (x ∷ xs) =
@@ -114,7 +114,7 @@ filters-swap p q (x ∷ xs) =
           ]
     ]
 
--- the newest copies of higher transactions stay, and no other
+-- a release keeps the newest copies of higher transactions, and no other
 pub newest-above : (bound b : ℕ) (cs : List QueuedCopy) → IsSingle cs → newest_in (above bound cs) b ≡ unreleased bound (newest_in cs b)
 newest-above bound b [] single = refl
 newest-above bound b (c ∷ cs) single =
@@ -134,6 +134,6 @@ newest-above bound b (c ∷ cs) single =
           ]
     ]
 
--- copies that are not live stay so without the first ones
+-- dead copies stay so without the first ones
 pub dead-drop : (n i j : ℕ) (cs : List QueuedCopy) → AreDead cs i j → AreDead (drop n cs) (i - n) (j - n)
 dead-drop n i j cs s = record { dead = λ k c after below here. s.dead (n + k) c (omega arith) (omega arith) (sym (get-drop n cs k) ∙ here) }

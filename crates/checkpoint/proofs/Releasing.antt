@@ -1,4 +1,4 @@
--- What a release makes of pending copies.
+-- How a release changes pending copies.
 use Rattle.std.proofs.Common.{◌≡◌, ℕ, ◌-◌, ◌≤◌, List, map, drop, sym, ap, subst, ◌∙◌, nat_lt, arith}
 use Rattle.std.specs.List.{filter}
 use Rattle.checkpoint.specs.declared.copies.QueuedCopy.{QueuedCopy}
@@ -11,7 +11,7 @@ use Rattle.checkpoint.proofs.Kept.{dead-join, live-skip, newest-map}
 use Rattle.checkpoint.proofs.Ordered.{ordered-drop}
 use Rattle.checkpoint.proofs.Released.{Splits, above, above-drop, above-drop_from, dead-drop, filters-swap, keys-above, newest-above, splits}
 
--- the steps of a release of the transactions up to the bound, which drops the first n copies
+-- a release up to the bound drops the first n copies
 pub record DropsFirst (old : Inside) (bound n : ℕ) (new : Inside) : Type 0 where
   pub kept : KeepsPending old
   pub releases : Releases bound old.copies.copies n
@@ -30,7 +30,7 @@ module _ (old : Inside) (bound n : ℕ) (new : Inside) (s : DropsFirst old bound
   stays : new.copies.copies ≡ above bound old.copies.copies
   stays = s.all ∙ sym (above-drop bound n old.copies.copies parted)
 
-  -- those of them that are not written home
+  -- those that are not written home
   unwritten-stays : live_from new.unwritten new.copies.copies ≡ above bound (live_from old.unwritten old.copies.copies)
   unwritten-stays =
       let live : List QueuedCopy → List QueuedCopy = filter (λ c. c.live) in

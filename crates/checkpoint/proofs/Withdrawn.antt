@@ -1,4 +1,4 @@
--- What the withdrawal of all touched blocks leaves: the newest copies, the keys, and the live copies.
+-- What a withdrawal of touched blocks leaves: newest copies, keys, live copies.
 use Rattle.std.proofs.Common.{◌≡◌, inl, inr, ℕ, true, false, not, ◌==◌, List, [], ◌∷◌, map, drop, arith, refl, sym, ap, subst, ◌∙◌, Some, None, true≢false, eq-eqb}
 use Rattle.std.specs.List.{filter, slice_get}
 use Rattle.std.specs.Option.{option_map}
@@ -15,7 +15,7 @@ use Rattle.checkpoint.specs.PendingView.{key_of}
 use Rattle.checkpoint.specs.Steps.{AreDead, withdrawn_all}
 use Rattle.checkpoint.proofs.Newest.{newest-withdrawn, newest-withdrawn_other}
 
--- a block with no live copy gets none
+-- a block without a live copy gets none
 none-withdrawn : (a b : ℕ) (cs : List QueuedCopy) → newest_in cs b ≡ None → newest_in (map (withdrawn a) cs) b ≡ None
 none-withdrawn a b cs none =
     elim (cases_eq b a) [
@@ -38,7 +38,7 @@ newest-touched b (e ∷ es) cs touched =
           newest-touched b es (map (withdrawn e.0) cs) rest
     ]
 
--- another keeps its own
+-- an untouched block keeps its newest copy
 pub newest-untouched : (b : ℕ) (es : List (ℕ × Entry)) (cs : List QueuedCopy) → is_touched es b ≡ false → newest_in (withdrawn_all (map (λ e. e.0) es) cs) b ≡ newest_in cs b
 newest-untouched b [] cs untouched = refl
 newest-untouched b (e ∷ es) cs untouched =
@@ -55,12 +55,12 @@ pub keys-withdrawn_all : (bs : List ℕ) (cs : List QueuedCopy) → map key_of (
 keys-withdrawn_all [] cs = refl
 keys-withdrawn_all (b ∷ bs) cs = keys-withdrawn_all bs (map (withdrawn b) cs) ∙ keys-withdrawn b cs
 
--- a withdrawal and a drop may change places
+-- a withdrawal and a drop commute
 pub drop-withdrawn_all : (k : ℕ) (bs : List ℕ) (cs : List QueuedCopy) → drop k (withdrawn_all bs cs) ≡ withdrawn_all bs (drop k cs)
 drop-withdrawn_all k [] cs = refl
 drop-withdrawn_all k (b ∷ bs) cs = drop-withdrawn_all k bs (map (withdrawn b) cs) ∙ ap (withdrawn_all bs) (drop-map (withdrawn b) k cs)
 
--- the live copies but those of a block
+-- the live copies of other blocks
 live-withdrawn : (b : ℕ) (cs : List QueuedCopy) → map key_of (filter (λ c. c.live) (map (withdrawn b) cs)) ≡ filter (λ k. not (k.1 == b)) (map key_of (filter (λ c. c.live) cs))
 live-withdrawn b [] = refl
 live-withdrawn b (c ∷ cs) =
@@ -73,12 +73,12 @@ live-withdrawn b (c ∷ cs) =
       | inr dead ↦ rw dead (live-withdrawn b cs)
     ]
 
--- every key passes where no entry is left
+-- without entries every key passes
 filter-none : (ks : List (ℕ × ℕ)) → ks ≡ filter (λ k. not (is_touched [] k.1)) ks
 filter-none [] = refl
 filter-none (k ∷ ks) = ap (λ (ls : List (ℕ × ℕ)). k ∷ ls) (filter-none ks)
 
--- the keys that one entry and then the others leave
+-- the keys left by one entry and then the others
 filter-touched : (e : ℕ × Entry) (es : List (ℕ × Entry)) (ks : List (ℕ × ℕ)) →
     filter (λ k. not (is_touched es k.1)) (filter (λ k. not (k.1 == e.0)) ks) ≡ filter (λ k. not (is_touched (e ∷ es) k.1)) ks
 filter-touched e es [] = refl
@@ -104,7 +104,7 @@ live-withdrawn_all (e ∷ es) cs =
     ∙ ap (filter (λ (k : ℕ × ℕ). not (is_touched es k.1))) (live-withdrawn e.0 cs)
     ∙ filter-touched e es (map key_of (filter (λ c. c.live) cs))
 
--- copies that are not live stay so
+-- dead copies stay so
 dead-withdrawn : (b i j : ℕ) (cs : List QueuedCopy) → AreDead cs i j → AreDead (map (withdrawn b) cs) i j
 dead-withdrawn b i j cs old =
     record {

@@ -1,4 +1,4 @@
--- The fields of pending copies as contracts see them, and what they keep true.
+-- How contracts see the fields of pending copies, and what these keep true.
 use Rattle.std.specs.Prelude.{ℕ, ◌≤◌, if◌then◌else◌, List, [], ◌∷◌, map, filter, drop, vec_capacity}
 use Rattle.std.specs.FinMap.{FinMap, empty, insert}
 use Rattle.std.specs.Ordering.{nat_cmp}
@@ -9,16 +9,13 @@ use Rattle.checkpoint.specs.Copies.{AreCopies, version_of}
 use Rattle.checkpoint.specs.Pending.{IsOrdered, PendingValue}
 use Rattle.checkpoint.specs.Steps.{AreDead, IsAtLive}
 
--- the live copies
 abbrev pub newest_map : List QueuedCopy → FinMap nat_cmp Version
 newest_map [] = empty
 newest_map (c ∷ cs) = if c.live then insert (newest_map cs) c.block (version_of c) else newest_map cs
 
--- the transaction and the block of a copy
 abbrev pub key_of : QueuedCopy → ℕ × ℕ
 key_of c = (c.tid, c.block)
 
--- the live copies from a place on
 abbrev pub live_from : ℕ → List QueuedCopy → List QueuedCopy
 live_from k cs = filter (λ c. c.live) (drop k cs)
 
@@ -30,8 +27,7 @@ pending_of p = record {
   unwritten = map key_of (live_from p.unwritten p.copies.copies);
 }
 
--- what the fields keep: the copies are in order, a commit's list fits, and both places are of live copies, with none live
--- before the front
+-- copies in order, room for a commit's list, both places at live copies or the end, and none live before the front
 pub record KeepsPending (p : Inside) : Type 0 where
   pub copies : AreCopies p.copies
   pub ordered : IsOrdered (map key_of p.copies.copies)

@@ -1,4 +1,4 @@
-//! The committed copies in their order, with the last one of each block at hand.
+//! Which committed copies are unreleased, in order, and which copy of each block is live.
 ghost use Rattle.std.specs.Prelude.{◌≡◌, ◌<◌, ◌≤◌, ◌++◌, ◌∷◌, ℕ, List, [], None, Some, true, false, IfOk, IfNone, IfSome, length, map, drop, slice_get, slice_index};
 ghost use Rattle.checkpoint.specs.Copies.{AreCopies, bucket_of, is_live_of, newest_in, version_of, withdrawn};
 ghost use Rattle.checkpoint.specs.Places.{place_of};
@@ -10,12 +10,9 @@ use std::alloc::{AllocError, Global};
 use std::collections::VecDeque;
 use std::marker::Model;
 
-/// A committed copy that is not released.
 #[derive(Clone, Copy)]
 pub(crate) struct QueuedCopy {
-    /// The transaction that it is of.
     pub(crate) tid: Tid,
-    /// The block that it is of.
     pub(crate) block: BlockNo,
     /// Its place among the transaction's entries.
     pub(crate) place: usize,
@@ -23,24 +20,22 @@ pub(crate) struct QueuedCopy {
     pub(crate) live: bool,
 }
 
-/// A copy, and the number of the link before it in its bucket, where there is one.
+/// A copy, and the number of its bucket's link before it, if any.
 #[derive(Clone, Copy)]
 struct Link {
     copy: QueuedCopy,
     before: u64,
 }
 
-/// Committed copies in order, in chains by block: one chain for each bucket of block numbers, from its last copy back.
-/// Links are numbered in their order, modulo 2^64. The number of a link that was dropped leads nowhere.
+/// Committed copies in order, chained by bucket of block numbers, from each bucket's last copy back. Links are
+/// numbered in order, modulo 2^64; the number of a dropped link leads nowhere.
 #[derive(Drop)]
 pub(crate) struct Copies {
-    /// How many copies there is room for.
     room: usize,
     /// The number of the first link.
     first: u64,
-    /// For each bucket, the number of its last link, where there is one.
+    /// The number of each bucket's last link, if any.
     lasts: Vec<u64>,
-    /// The links, in order.
     links: VecDeque<Link>,
 }
 
@@ -56,7 +51,6 @@ impl Model for Copies {
     ghost invariant = { KeepsCopies };
 }
 
-/// The bucket of a block, of so many buckets.
 fn bucket_of(block: BlockNo, buckets: usize) -> usize
     requires { 0 < buckets }
     ensures bucket { result ≡ bucket_of buckets block }
@@ -66,14 +60,12 @@ fn bucket_of(block: BlockNo, buckets: usize) -> usize
 }
 
 impl QueuedCopy {
-    /// Whether it is live, and of the block.
     fn is_live_of(&self, block: BlockNo) -> bool
         ensures { result ≡ is_live_of block self.now }
     {
         self.live && self.block == block
     }
 
-    /// Where it stands.
     pub(crate) fn version(&self) -> Version
         ensures { result ≡ version_of self.now }
     {
@@ -84,7 +76,7 @@ impl QueuedCopy {
     }
 }
 
-/// The place that a link's number leads to, where the first link has the number `first`.
+/// The place of the link with this number.
 fn place_of(first: u64, number: u64) -> usize
     ensures { result ≡ place_of first number }
 {
@@ -92,7 +84,7 @@ fn place_of(first: u64, number: u64) -> usize
 }
 
 impl Copies {
-    /// No copies, with room for so many. It fails where memory runs out.
+    /// No copies, with this room. It fails if memory runs out.
     pub(crate) fn new(alloc: Global, room: usize) -> Result<Self, AllocError>
         ensures empty { IfOk result (λ copies. copies ≡ record { room = room; copies = [] }) }
         ensures kept { IfOk result AreCopies }
@@ -107,14 +99,12 @@ impl Copies {
         })
     }
 
-    /// How many copies there are.
     pub(crate) fn len(&self) -> usize
         ensures { result ≡ length self.now.copies }
     {
         self.links.len()
     }
 
-    /// The copy at a place.
     pub(crate) fn at(&self, place: usize) -> QueuedCopy
         requires { place < length self.now.copies }
         ensures { slice_get self.now.copies place ≡ Some result }
@@ -122,7 +112,6 @@ impl Copies {
         self.links[place].copy
     }
 
-    /// The place of the live copy of a block, where there is one.
     fn find(&self, block: BlockNo) -> Option<usize>
         ensures some { IfSome result (λ place. (copy : QueuedCopy) × (slice_get self.now.copies place ≡ Some copy) × (is_live_of block copy ≡ true)) }
         ensures none { IfNone result ((place : ℕ) (copy : QueuedCopy) → slice_get self.now.copies place ≡ Some copy → is_live_of block copy ≡ false) }
@@ -146,7 +135,6 @@ impl Copies {
         None
     }
 
-    /// Where the live copy of a block stands.
     pub(crate) fn newest(&self, block: BlockNo) -> Option<Version>
         ensures { result ≡ newest_in self.now.copies block }
     {
@@ -156,7 +144,7 @@ impl Copies {
         }
     }
 
-    /// No copy of the block is live from now on.
+    /// Makes the block's live copy, if any, not live.
     pub(crate) fn withdraw(&mut self, block: BlockNo)
         ensures withdrawn { self.new ≡ record self.old { copies = map (withdrawn block) self.old.copies } }
         ensures kept { AreCopies self.new }
@@ -171,7 +159,6 @@ impl Copies {
         }
     }
 
-    /// Adds a live copy at the end.
     pub(crate) fn push(&mut self, tid: Tid, block: BlockNo, place: usize)
         requires room { length self.old.copies < self.old.room }
         requires single { newest_in self.old.copies block ≡ None }
@@ -190,7 +177,6 @@ impl Copies {
         self.links.push_back_reserved(Link { copy, before });
     }
 
-    /// Drops the first copy.
     pub(crate) fn pop(&mut self)
         ensures popped { self.new ≡ record self.old { copies = drop 1 self.old.copies } }
         ensures kept { AreCopies self.new }

@@ -1,4 +1,4 @@
-//! The pending copies: what a commit adds, what goes home next, and what a release drops.
+//! Which copies are pending: what a commit adds, what goes home next, what a release drops.
 ghost use Rattle.std.specs.Prelude.{◌≡◌, ℕ, ◌+◌, ◌<◌, ◌≤◌, List, [], None, Some, IfNone, IfOk, IfSome, length, map, drop, nat_eq, slice_get};
 ghost use Rattle.std.specs.List.{AllByRecursion, IsDistinct};
 ghost use Rattle.journal_model.specs.Transaction.{copied};
@@ -16,19 +16,18 @@ use std::marker::Model;
 
 /// The pending copies, and which of them are not yet written home. Only `new` takes memory.
 ///
-/// `next` and `oldest` take constant time, and `lookup` does where block numbers fall evenly into as many buckets as there
-/// is room for copies. A commit of k entries takes in the order of k log k, for it sorts its copies by block. A release
-/// takes time in proportion to the copies that it drops. Besides, `commit`, `wrote` and `release` pass over copies that
-/// were replaced: over each of them twice in its whole life.
+/// `next` and `oldest` take constant time; so does `lookup`, if block numbers spread evenly over `room` buckets. A
+/// commit of k entries takes about k log k, a release time proportional to the dropped copies. Besides, `commit`,
+/// `wrote` and `release` pass over each replaced copy twice in its life.
 #[derive(Drop)]
 pub struct Pending {
-    /// The copies that were committed and not released, by transaction and then block.
+    /// Committed, unreleased copies, by transaction and then block.
     copies: Copies,
-    /// The blocks of the copies that a commit adds, with their places among its entries.
+    /// Blocks of the copies that a commit adds, with their places among its entries.
     added: Vec<(BlockNo, usize)>,
     /// The place of the first live copy, or the end.
     front: usize,
-    /// The place of the first live copy that is not written home, or the end.
+    /// The place of the first live copy not written home, or the end.
     unwritten: usize,
 }
 
@@ -47,8 +46,11 @@ impl Model for Pending {
 }
 
 impl Pending {
-    /// No pending copies, with room for so many copies that are committed and not released. It fails where memory runs
-    /// out. It is the only call that takes memory.
+    /// No pending copies, with room for so many committed, unreleased ones.
+    ///
+    /// # Errors
+    ///
+    /// `AllocError`: memory ran out.
     pub fn new(alloc: Global, room: usize) -> Result<Self, AllocError>
         ensures newest { IfOk result (λ pending. (b : ℕ) → newest_of pending b ≡ None) }
         ensures queue { IfOk result (λ pending. pending.queue ≡ []) }
@@ -64,8 +66,8 @@ impl Pending {
         })
     }
 
-    /// Adds the copies of a committed transaction. Each entry replaces the pending copy of its block, where there is one:
-    /// a copy is pending in its place, and a revoke leaves none.
+    /// Adds the copies of a committed transaction. Each entry replaces the pending copy of its block; a revoke leaves
+    /// none.
     /// Source: fs/jbd2/commit.c by behaviour (a buffer of a newer transaction leaves the older one's checkpoint list).
     pub fn commit(&mut self, entries: &[(BlockNo, Entry)], tid: Tid)
         requires distinct { IsDistinct nat_eq (map (λ e. e.0) entries.now) }
@@ -82,7 +84,7 @@ impl Pending {
         self.unwritten = skip_dead(&self.copies, self.unwritten);
     }
 
-    /// The first copy that is to be written home, by transaction and then block, where its transaction is at most `bound`.
+    /// The first copy to write home, by transaction and then block, of a transaction up to `bound`.
     pub fn next(&self, bound: Tid) -> Option<HomeCopy>
         ensures bound { IfSome result (λ copy. copy.version.tid ≤ bound) }
         ensures first { IfSome result (λ copy. slice_get self.now.unwritten 0 ≡ Some (copy.version.tid, copy.block)) }
@@ -103,7 +105,7 @@ impl Pending {
         })
     }
 
-    /// Notes that the first copy that was to be written home is written.
+    /// Records that the first copy to write home is written.
     pub fn wrote(&mut self)
         requires { 0 < length self.old.unwritten }
         ensures written { self.new ≡ record self.old { unwritten = drop 1 self.old.unwritten } }
@@ -112,7 +114,7 @@ impl Pending {
         self.unwritten = skip_dead(&self.copies, self.unwritten + 1);
     }
 
-    /// Releases the copies of the transactions up to `bound`: they are known to be durable at home, or were replaced.
+    /// Releases the copies of the transactions up to `bound`, which are durable at home or were replaced.
     pub fn release(&mut self, bound: Tid)
         ensures released { IsReleased self.old bound self.new }
         ensures kept { ArePending self.new }
@@ -122,7 +124,7 @@ impl Pending {
         self.unwritten = skip_dead(&self.copies, self.unwritten.saturating_sub(dropped));
     }
 
-    /// The lowest transaction of which a copy is pending, where one is.
+    /// The lowest transaction with a pending copy, if any.
     pub fn oldest(&self) -> Option<Tid>
         ensures some { IfSome result (IsOldest self.now) }
         ensures none { IfNone result ((b : ℕ) → newest_of self.now b ≡ None) }
@@ -134,7 +136,7 @@ impl Pending {
         Some(self.copies.at(self.front).tid)
     }
 
-    /// Where the pending copy of a block stands, where it has one.
+    /// Where the pending copy of a block stands.
     pub fn lookup(&self, block: BlockNo) -> Option<Version>
         ensures newest { result ≡ newest_of self.now block }
         ensures kept { ArePending self.now }

@@ -1,4 +1,4 @@
-//! The steps of a commit and of a release.
+//! How a commit and a release change the copies.
 ghost use Rattle.std.specs.Prelude.{◌≡◌, ℕ, ◌+◌, ◌<◌, ◌≤◌, ◌++◌, List, None, Some, false, length, map, drop, nat_eq, slice_get, vec_capacity};
 ghost use Rattle.std.specs.List.{IsDistinct};
 ghost use Rattle.journal_model.specs.Transaction.{copied};
@@ -20,7 +20,7 @@ pub(crate) fn withdraw_touched(copies: &mut Copies, entries: &[(BlockNo, Entry)]
     }
 }
 
-/// Lists the blocks of the copies among the entries, each with its place there.
+/// The blocks of the copies among the entries, with their places.
 pub(crate) fn list_copies(list: &mut Vec<(BlockNo, usize)>, entries: &[(BlockNo, Entry)])
     requires { length (copied entries.now) ≤ vec_capacity list.old }
     ensures places { list.new.items ≡ places_of 0 entries.now }
@@ -34,7 +34,6 @@ pub(crate) fn list_copies(list: &mut Vec<(BlockNo, usize)>, entries: &[(BlockNo,
     }
 }
 
-/// Adds the listed copies, which are of one transaction.
 pub(crate) fn push_listed(copies: &mut Copies, list: &[(BlockNo, usize)], tid: Tid)
     requires kept { AreCopies copies.old }
     requires room { length copies.old.copies + length list.now ≤ copies.old.room }
@@ -48,7 +47,7 @@ pub(crate) fn push_listed(copies: &mut Copies, list: &[(BlockNo, usize)], tid: T
     }
 }
 
-/// The place of the first live copy from a place on, or the end.
+/// The place of the first live copy from `from` on, or the end.
 pub(crate) fn skip_dead(copies: &Copies, from: usize) -> usize
     requires { from ≤ length copies.now.copies }
     ensures live { IsAtLive copies.now.copies result }
@@ -62,7 +61,7 @@ pub(crate) fn skip_dead(copies: &Copies, from: usize) -> usize
     place
 }
 
-/// Drops the first copies, whose transactions are at most `bound`, and tells how many they are.
+/// Drops the first copies, of transactions up to `bound`, and answers how many.
 pub(crate) fn drop_released(copies: &mut Copies, bound: Tid) -> usize
     requires kept { AreCopies copies.old }
     ensures dropped { copies.new ≡ record copies.old { copies = drop result copies.old.copies } }

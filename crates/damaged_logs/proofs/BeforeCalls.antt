@@ -1,4 +1,4 @@
--- What holds at each moment of an opening that takes what stands before a damaged block, and what its calls leave.
+-- What holds at each moment of an opening in spite of damage, and at its end.
 use Rattle.std.proofs.Common.{refl, sym, ◌∙◌, subst, arith, inr}
 use Rattle.std.specs.Prelude.{◌≡◌, ℕ, ◌+◌, ◌<◌, List, [], ◌∷◌, ◌++◌, length, None, Option, Contains}
 use Rattle.journal_model.specs.declared.number.Area.TheVariants.{Log, Home}
@@ -30,32 +30,32 @@ use Rattle.damaged_logs.specs.Before.IsMomentBefore.{Unwritten}
 use Rattle.damaged_logs.specs.BeforeSteps.{before_calls}
 use Rattle.damaged_logs.proofs.BeforeImages.{CopiesDone, CopiesGo, none-live, done-flushed, done-moment, done-written, go-done, go-fault, go-flushed, go-moment, go-written, tail_of, taken-accepted}
 
--- P holds before each of these calls, behind one that fails, and behind all of them
+-- P holds before each of these calls, after a failed one, and after all
 abbrev pub AllAlong : (Disk → Type 0) → List Call → Disk → Type 0
 AllAlong P [] disk = P disk
 AllAlong P (call ∷ calls) disk = P disk × ((after : Disk) → IsAfterFault call disk after → P after) × AllAlong P calls (after_success call disk)
 
 module _ (P : Disk → Type 0) where
-  -- so before the first of them
+  -- P holds before the first of them
   along-first : (calls : List Call) (disk : Disk) → AllAlong P calls disk → P disk
   along-first [] disk along = along
   along-first (call ∷ calls) disk along = along.0
 
-  -- before some of them, and along the others
+  -- P holds before the first calls, and along the others
   along-split : (done due : List Call) (disk : Disk) → AllAlong P (done ++ due) disk → BeforeEach P done disk × AllAlong P due (disk_after done disk)
   along-split [] due disk along = (tt, along)
   along-split (call ∷ done) due disk along =
       let rest = along-split done due (after_success call disk) along.2 in
       ((along.0, rest.0), rest.1)
 
-  -- and before each of them, and behind all
+  -- P holds before each of them, and after all
   along-all : (calls : List Call) (disk : Disk) → AllAlong P calls disk → BeforeEach P calls disk × P (disk_after calls disk)
   along-all [] disk along = (tt, along)
   along-all (call ∷ calls) disk along =
       let rest = along-all calls (after_success call disk) along.2 in
       ((along.0, rest.0), rest.1)
 
-  -- each moment of calls that were made
+  -- P holds at each moment of calls that were made
   made-each : (calls : List Call) (old new : DeviceState) → BeforeEach P calls old.disk → P (disk_after calls old.disk) → HasMade calls old new → EachMoment P old new
   made-each calls old new before last made =
       let past = past-each P calls old.disk old.past before in
@@ -64,12 +64,12 @@ module _ (P : Disk → Type 0) where
   pub made-along : (calls : List Call) (old new : DeviceState) → AllAlong P calls old.disk → HasMade calls old new → EachMoment P old new
   made-along calls old new along made = let all = along-all calls old.disk along in made-each calls old new all.0 all.1 made
 
-  -- of a failure where these are still to be made
+  -- P holds at each moment of a failure among these calls
   interrupted-along : (due : List Call) (mid new : DeviceState) → AllAlong P due mid.disk → IsInterrupted due mid new → EachMoment P mid new
   interrupted-along due mid new along (Before calls x y stays) = each-stays P mid new stays (along-first due mid.disk along)
   interrupted-along due mid new along (Within call calls x y disk fault moves) = each-moves P mid new disk moves along.0 (along.1 disk fault)
 
-  -- and of calls of which one failed
+  -- P holds at each moment of calls of which one failed
   pub begun-along : (calls : List Call) (old new : DeviceState) → AllAlong P calls old.disk → HasBegun calls old new → EachMoment P old new
   begun-along calls old new along begun =
       let split = along-split begun.done begun.due old.disk (subst (λ (cs : List Call). AllAlong P cs old.disk) begun.split along) in
@@ -122,7 +122,7 @@ module _ (shape : Shape) (old : Disk) (texts : List Text) (greatest : ℕ) (stop
               (go-written shape old texts disk c.0 c.1 first go),
         )
 
-    -- so each moment is one of such an opening
+    -- each moment is one of such an opening
     pub before-along : AllAlong (IsMomentBefore shape old) (before_calls texts (tail_of old greatest)) old
     before-along = (
       Unwritten refl,
@@ -131,7 +131,7 @@ module _ (shape : Shape) (old : Disk) (texts : List Text) (greatest : ℕ) (stop
           (go-flushed shape old texts),
     )
 
-    -- the disk once copies are home
+    -- the disk once the copies are home
     copies-go : (copies : BlockCopies) (disk : Disk) → ((b : ℕ) (v : List ℕ) → Contains copies (b, v) → IsNewest texts b v) → CopiesGo shape old texts disk →
         CopiesGo shape old texts (disk_after (writes_home copies) disk)
     copies-go [] disk newest go = go
@@ -139,7 +139,7 @@ module _ (shape : Shape) (old : Disk) (texts : List Text) (greatest : ℕ) (stop
         copies-go cs (written disk Home c.0 c.1) (λ b v among. newest b v (contains-behind c cs (b, v) among))
         (go-written shape old texts disk c.0 c.1 (newest c.0 c.1 (contains-first c cs c refl)) go)
 
-    -- and once all calls are made
+    -- the disk once all calls are made
     abbrev ended : Disk → Disk
     ended disk = flushed (written (flushed disk Home) Log 0 (tail_of old greatest)) Log
 
@@ -155,7 +155,7 @@ module _ (shape : Shape) (old : Disk) (texts : List Text) (greatest : ℕ) (stop
         (go-done shape old texts greatest copied (copies-replayed shape.home_blocks texts (flushed old Log))
         (copies-go (home_copies texts) (flushed old Log) (home-copies-newest texts) (go-flushed shape old texts))))
 
-    -- the log is opened, with the number behind the greatest
+    -- the log is opened, with the number after the greatest
     ended-log : IsOpenedLog shape (ended copied) (tail_of old greatest) (greatest + 1)
     ended-log =
         let tail = clean-tail shape (old Log 0).reads (greatest + 1) (taken-accepted shape (reading old) texts takes.taken) size (omega arith) in
@@ -169,7 +169,7 @@ module _ (shape : Shape) (old : Disk) (texts : List Text) (greatest : ℕ) (stop
         })
         small refl (λ n v other one. held-durable (ended copied) n (old Log n).reads v (ended-done.log n other) one) tail.ring takes.greatest_is.none_ahead
 
-    -- so it is a whole opening
+    -- it is a whole opening
     pub made-before : (new : Disk) → new ≡ disk_after (before_calls texts (tail_of old greatest)) old →
         ((super_of (reading old)).s_start ≡ 0 → stopped ≡ None → ⊥) → IsOpeningBefore shape old new texts greatest stopped (tail_of old greatest) (greatest + 1)
     made-before new is written_there =
@@ -206,7 +206,7 @@ module _ (shape : Shape) (old : Disk) (texts : List Text) (greatest : ℕ) (stop
           untouched = λ other more. refl;
         })
 
-    -- and each moment of that is one, too
+    -- each moment of that is one, too
     pub left-along : AllAlong (IsMomentBefore shape old) (Flush Log ∷ []) old
     left-along = (
       Unwritten refl,

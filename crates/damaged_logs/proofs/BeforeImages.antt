@@ -1,4 +1,4 @@
--- What a stop leaves of a disk while transactions are taken of its log: the same home comes of each such image.
+-- Each crash image of such an opening gives the same home.
 use Rattle.std.proofs.Common.{refl, sym, ◌∙◌, ap, subst, arith, inl, inr, zero, ⊎_elim}
 use Rattle.std.specs.Prelude.{◌≡◌, ◌≢◌, ◌⊎◌, ℕ, suc, ◌+◌, ◌<◌, List, [], length, None, Some, Option, slice_get}
 use Rattle.std.proofs.lemmas.Bool.{cases_eq}
@@ -27,7 +27,7 @@ use Rattle.damaged_logs.specs.Before.{AreTaken, GivesSame, IsMomentBefore, Takes
 use Rattle.damaged_logs.specs.Before.AreTaken.{OfChain, OfClean}
 use Rattle.damaged_logs.specs.Before.IsMomentBefore.{Past}
 
--- what may be added twice is added once
+-- what may be added in two steps may be added in one
 pub adds-joined : (may : Addition) (a b c : Disk) → HomeAddsOnly may a b → HomeAddsOnly may b c → HomeAddsOnly may a c
 adds-joined may a b c first second = record {
   reads = λ n. elim (second.reads n) [
@@ -41,7 +41,7 @@ adds-joined may a b c first second = record {
   left = λ n v one. ⊎_elim (λ was. first.left n v was) (λ added. inr added) (second.left n v one);
 }
 
--- no copy of no text is live
+-- the empty chain has no live copy
 pub none-live : (b : ℕ) → HasNoLive [] b
 none-live b i k bytes live = nothing i live.text live.stands
   where
@@ -54,7 +54,7 @@ pub taken-accepted : (shape : Shape) (image : Image) (texts : List Text) → Are
 taken-accepted shape image texts (OfClean clean) = clean.accepted
 taken-accepted shape image texts (OfChain ts started are) = started.accepted
 
--- of two images with the same log the same is taken
+-- the same is taken of images of one log
 same-taken : (shape : Shape) (image other : Image) (texts : List Text) → SameLog image other → AreTaken shape image texts → AreTaken shape other texts
 same-taken shape image other texts same (OfClean is) = OfClean (record {
   accepted = ap (super_refusal shape) (same 0) ∙ is.accepted;
@@ -70,7 +70,7 @@ same-taken shape image other texts same (OfChain ts started are) =
     (sym (same-log_lap image other same))
     (subst (λ (block : List ℕ). IsChain (layout_of (super_in block)) shape.home_blocks (super_in block).s_sequence (log_lap image) texts) (sym (same 0)) are))
 
--- what a stop leaves of a log block that is durable
+-- a durable log block is left as it reads
 only-read : (disk : Disk) (image : Image) (n : ℕ) (v : List ℕ) → Leaves disk image → disk Log n ≡ durable_cell v → image Log n ≡ v
 only-read disk image n v leaves durable = held-durable disk n v (image Log n) durable (leaves.each Log n)
 
@@ -79,11 +79,11 @@ abbrev pub tail_of : Disk → ℕ → List ℕ
 tail_of old greatest = with_tail (old Log 0).reads (greatest + 1) 0
 
 module _ (shape : Shape) (old : Disk) (texts : List Text) where
-  -- home may hold what it might have held, or newest copies
+  -- home holds what it might have held, or newest copies
   abbrev HoldsRightly : Image → Type 0
   HoldsRightly image = (b : ℕ) → IsOneOf (held (old Home b)) (image Home b) ⊎ IsNewest texts b (image Home b)
 
-  -- while the log is as it was read, it is replayed once more
+  -- while the log is as it was read, it is replayed again
   gives-again : (image : Image) → AreTaken shape (reading old) texts → SameLog (reading old) image → HoldsRightly image → GivesSame shape old texts image
   gives-again image taken same holds =
       let got : Volume = reading (disk_after (writes_home (home_copies texts)) (disk_of image)) Home in
@@ -105,7 +105,7 @@ module _ (shape : Shape) (old : Disk) (texts : List Text) where
             ];
       }
 
-  -- behind the superblock of the clean log home has all of it
+  -- after the clean superblock home has all of it
   gives-clean : (image : Image) (greatest : ℕ) → super_refusal shape (old Log 0).reads ≡ None → length (old Log 0).reads ≡ shape.block_size →
       greatest < greatest_number → image Log 0 ≡ tail_of old greatest → IsReplayed shape.home_blocks texts (reading old Home) (image Home) →
       GivesSame shape old texts image
@@ -127,7 +127,7 @@ module _ (shape : Shape) (old : Disk) (texts : List Text) where
     pub home : HomeAddsOnly (IsNewest texts) old disk
     pub log : (n : ℕ) → disk Log n ≡ flushed old Log Log n
 
-  -- once they are durable: the superblock may be that of the clean log
+  -- once they are durable: block 0 may be the clean superblock
   pub record CopiesDone (greatest : ℕ) (disk : Disk) : Type 0 where
     pub home : HomeAddsOnly (IsNewest texts) old disk
     pub durable : (b : ℕ) → disk Home b ≡ durable_cell (disk Home b).reads
@@ -152,14 +152,14 @@ module _ (shape : Shape) (old : Disk) (texts : List Text) where
   fault-log disk after b n v (Whole a m w x y same) = ap (λ (d : Disk). d Log n) same
   fault-log disk after b n v (HandedOver a m w x y same) = ap (λ (d : Disk). d Log n) same
 
-  -- or failed
+  -- a write of a newest copy fails
   pub go-fault : (disk after : Disk) (b : ℕ) (v : List ℕ) → IsNewest texts b v → IsAfterFault (Write Home b v) disk after → CopiesGo disk → CopiesGo after
   go-fault disk after b v newest fault go = record {
     home = adds-joined (IsNewest texts) old disk after go.home (write-adds (IsNewest texts) b v disk after newest fault);
     log = λ n. fault-log disk after b n v fault ∙ go.log n;
   }
 
-  -- home is flushed once all are written
+  -- home is flushed once all copies are written
   pub go-done : (greatest : ℕ) (disk : Disk) → IsReplayed shape.home_blocks texts (reading old Home) (reading disk Home) → CopiesGo disk →
       CopiesDone greatest (flushed disk Home)
   go-done greatest disk replayed go = record {
@@ -177,7 +177,7 @@ module _ (shape : Shape) (old : Disk) (texts : List Text) where
       only b v (inl is) = inl is
       only b v (inr none) = absurd none
 
-  -- the superblock is written, or a write of it failed
+  -- the superblock is written, or its write fails
   pub done-written : (greatest : ℕ) (disk after : Disk) → IsWrite disk after 0 (tail_of old greatest) → CopiesDone greatest disk → CopiesDone greatest after
   done-written greatest disk after write done = record {
     home = adds-joined (IsNewest texts) old disk after done.home (adds-none (IsNewest texts) disk after write.home.same);
@@ -212,7 +212,7 @@ module _ (shape : Shape) (old : Disk) (texts : List Text) where
         go.home (λ n other. go.log n) (λ v one. inl (held-flushed old 0 v (subst (λ (c : Cell). IsOneOf (held c) v) (go.log 0) one)))
 
     module _ (size : length (old Log 0).reads ≡ shape.block_size) (small : greatest < greatest_number) where
-      -- the same log, where block 0 is as it was
+      -- the log is the same if block 0 is as it was
       whole-log : (disk : Disk) (image : Image) → CopiesDone greatest disk → Leaves disk image → image Log 0 ≡ (old Log 0).reads → SameLog (reading old) image
       whole-log disk image done leaves first n =
           elim (cases_eq n 0) [
@@ -220,7 +220,7 @@ module _ (shape : Shape) (old : Disk) (texts : List Text) where
             | inr other ↦ only-read disk image n (old Log n).reads leaves (done.log n other)
           ]
 
-      -- home as it is left
+      -- home as a crash leaves it
       home-left : (disk : Disk) (image : Image) (b : ℕ) → CopiesDone greatest disk → Leaves disk image → image Home b ≡ (disk Home b).reads
       home-left disk image b done leaves = ⊎_elim (λ is. is) (λ none. absurd none) (subst (λ (c : Cell). IsOneOf (held c) (image Home b)) (done.durable b) (leaves.each Home b))
 

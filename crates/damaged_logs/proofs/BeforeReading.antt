@@ -1,4 +1,4 @@
--- Reading a log whose refusals are passed over: what is taken of it, and why it is refused all the same.
+-- What is taken of a log whose refusals are passed over, and why it is refused nevertheless.
 use Rattle.std.proofs.Common.{refl, sym, ◌∙◌, ap, subst, arith, inl, inr}
 use Rattle.std.specs.Prelude.{◌≡◌, ◌≢◌, ℕ, ◌+◌, ◌<◌, ◌≤◌, ◌==◌, true, List, length, Option, None, Some, MatchOption}
 use Rattle.std.proofs.lemmas.Bool.{cases_eq}
@@ -26,7 +26,7 @@ use Rattle.damaged_logs.specs.Before.BeforeRefused.{ByDevice, ByMemory, ByNumber
 use Rattle.damaged_logs.specs.BeforeSteps.{HoldsTexts, IsReadBeforeOn, IsSurveyed}
 use Rattle.log_scan.specs.Scanning.{IsChainOf}
 
--- an image that passes the tests is refused for its numbers alone
+-- an image that passes the tests is refused only for its numbers
 not-refused : (shape : Shape) (image : Image) (transactions : ℕ) → IsLayout shape image → IsTested (super_of image) shape.home_blocks image transactions →
     (e : JournalError) → e ≢ SequenceEnd → IsRefused shape image e → ⊥
 not-refused shape image transactions is tested e other (RefusedBySuperblock f refused) = let accepted = is.accepted in cc
@@ -37,14 +37,14 @@ not-refused shape image transactions is tested e other (ByAhead limit place has 
     (one-limit shape image limit ((super_of image).s_sequence + transactions) has (limit-image shape image transactions is tested.has)) ahead)
 not-refused shape image transactions is tested e other (ByNumber limit has none great) = other refl
 
--- which refusal is passed over
+-- the refusal that is passed over
 passed-over : (shape : Shape) (image : Image) (transactions : ℕ) (stopped : Option JournalError) → IsLayout shape image →
     MatchOption stopped (IsTested (super_of image) shape.home_blocks image transactions) (λ e. (e ≢ SequenceEnd) × IsRefusedLog (super_of image) shape.home_blocks image e) →
     IsPassedOver shape image stopped
 passed-over shape image transactions None is tested = not-refused shape image transactions is tested
 passed-over shape image transactions (Some e) is refused = (refused.0, refused-image shape image e is refused.1)
 
--- what is taken of the image, of texts that the log holds
+-- the texts that a log holds are taken of its image
 taken-texts : (shape : Shape) (image : Image) (texts : List Text) → IsLayout shape image → HoldsTexts (super_of image) shape.home_blocks image texts → AreTaken shape image texts
 taken-texts shape image texts is holds =
     elim (cases_eq (super_of image).s_start 0) [
@@ -83,31 +83,31 @@ taken-on s t superblock fields transactions greatest stopped well read stays fou
       count = there.number;
     }
 
--- so its greatest number is known
+-- its greatest number is known
 greatest-on : (shape : Shape) (disk : Disk) (fields : Super) (transactions greatest : ℕ) (stopped : Option JournalError) →
     IsTakenOn shape disk fields transactions greatest stopped → HasGreatest shape (reading disk) greatest
 greatest-on shape disk fields transactions greatest stopped is = record { texts = is.texts; stopped = stopped; takes = is.takes }
 
--- the device failed
+-- refused: the device failed
 pub before-failure : (honest : Type 0) (s t : DeviceState) (e : JournalError) → IsDeviceFailure s t e → BeforeRefused honest s t e
 before-failure honest s t e (is, counted) = subst (BeforeRefused honest s t) (sym is) (ByDevice counted)
 
--- behind calls that did not fail
+-- refused after calls that did not fail
 pub before-later : (honest : Type 0) (s t u : DeviceState) (e : JournalError) → t.faults ≡ s.faults → IsDeviceFailure t u e → BeforeRefused honest s u e
 before-later honest s t u e same failure = before-failure honest s u e (later-failure s t u e same failure)
 
--- memory ran out
+-- refused: memory ran out
 memory-before : (honest : Type 0) (s t : DeviceState) (e : JournalError) → e ≡ Memory → Stays s t → t.faults ≡ s.faults →
     (honest → s.shape.block_size ≤ most_bytes → (greatest : ℕ) × HasGreatest s.shape (reading s.disk) greatest × (greatest < greatest_number)) → BeforeRefused honest s t e
 memory-before honest s t e is stays same known = subst (BeforeRefused honest s t) (sym is) (ByMemory stays same known)
 
--- block 0 is refused, or could not be read
+-- refused: block 0 is refused, or could not be read
 pub reading-before : (honest : Type 0) (s t : DeviceState) (e : JournalError) → Stays s t → IsReadingRefused honest s t e → BeforeRefused honest s t e
 reading-before honest s t e stays (inl failure) = before-failure honest s t e failure
 reading-before honest s t e stays (inr (inl (memory, same, large))) = memory-before honest s t e memory stays same (λ trust small. absurd (omega arith))
 reading-before honest s t e stays (inr (inr (listed, same, refused))) = BySuperblock e stays same listed refused
 
--- no number is left
+-- refused: no number is left
 pub numbers-before : (honest : Type 0) (s t u : DeviceState) (superblock : List ℕ) (fields : Super) (transactions greatest : ℕ) (stopped : Option JournalError) →
     IsWellRead s.shape superblock fields → (honest → superblock ≡ reading s.disk Log 0) → Stays s t → Stays t u → u.faults ≡ s.faults → greatest_number ≤ greatest →
     (honest → IsSurveyed fields t.shape.home_blocks (reading t.disk) transactions greatest stopped) → BeforeRefused honest s u SequenceEnd
@@ -120,7 +120,7 @@ numbers-before honest s t u superblock fields transactions greatest stopped well
       great,
     ))
 
--- memory ran out behind the survey
+-- refused: memory ran out after the survey
 pub want-before : (honest : Type 0) (s t u : DeviceState) (superblock : List ℕ) (fields : Super) (transactions greatest : ℕ) (stopped : Option JournalError) (e : JournalError) →
     IsWellRead s.shape superblock fields → (honest → superblock ≡ reading s.disk Log 0) → Stays s t → Stays t u → u.faults ≡ s.faults → greatest < greatest_number →
     (honest → IsSurveyed fields t.shape.home_blocks (reading t.disk) transactions greatest stopped) → e ≡ Memory → BeforeRefused honest s u e
@@ -133,13 +133,13 @@ want-before honest s t u superblock fields transactions greatest stopped e well 
       small,
     ))
 
--- the texts of a log that has some are those of its chain
+-- the texts of a log with some are those of its chain
 pub chain-held : (s : Super) (count : ℕ) (image : Image) (texts : List Text) (transactions : ℕ) → HoldsTexts s count image texts → transactions ≡ length texts → 0 < transactions →
     IsChainOf s count image texts
 chain-held s count image texts transactions holds number some =
     holds.started (λ clean. let none = ap length (holds.clean clean) in absurd (omega arith))
 
--- gathering was refused
+-- refused: gathering failed
 pub gather-before : (honest : Type 0) (s t u v : DeviceState) (superblock : List ℕ) (fields : Super) (transactions greatest : ℕ) (stopped : Option JournalError) (e : JournalError) →
     IsWellRead s.shape superblock fields → (honest → superblock ≡ reading s.disk Log 0) → Stays s t → Stays t u → Stays u v → u.faults ≡ s.faults → greatest < greatest_number →
     (honest → IsSurveyed fields t.shape.home_blocks (reading t.disk) transactions greatest stopped) → IsGatherRefused honest fields transactions u v e → BeforeRefused honest s v e
@@ -158,7 +158,7 @@ gather-before honest s t u v superblock fields transactions greatest stopped e w
     (otherwise.no_fault ∙ same) (damage-around fields.s_first fields.s_maxlen 1 s.shape.log_blocks e (omega arith) well.accepted.within otherwise.names)
     (inl (stays-joins s u v (stays-joins s t u first second) third))
 
--- the log area has no block
+-- refused: the log area has no block
 pub no-log-before : (honest : Type 0) (s : DeviceState) → s.shape.log_blocks ≡ 0 → BeforeRefused honest s s BadLength
 no-log-before honest s none =
     BySuperblock BadLength (record { shape = refl; disk = refl; past = refl }) refl (inr (inr (inr (inl refl))))

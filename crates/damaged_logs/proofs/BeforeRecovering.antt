@@ -1,4 +1,4 @@
--- A log that was read is flushed, replayed and left clean: what comes of it.
+-- What comes of a log that was read, flushed, replayed and left clean.
 use Rattle.std.proofs.Common.{refl, sym, ◌∙◌, ap, ap₂, subst, arith, inl, inr}
 use Rattle.std.specs.Prelude.{◌≡◌, ◌≢◌, ℕ, ◌+◌, ◌==◌, Bool, true, false, not, List, [], ◌∷◌, ◌++◌, length, Option, None, Some}
 use Rattle.std.specs.Option.{is_some}
@@ -32,7 +32,7 @@ use Rattle.damaged_logs.specs.BeforeSteps.IsBrokenBefore.{Reading, Writing}
 use Rattle.damaged_logs.proofs.BeforeCalls.{before-along, begun-along, left-along, left-before, made-along, made-before}
 use Rattle.damaged_logs.proofs.BeforeReading.{before-later, chain-held}
 
--- an option that is none, and one that is not
+-- whether an option is none
 pub none-there : (stopped : Option JournalError) (answer : Bool) → is_some stopped ≡ not answer → answer ≡ true → stopped ≡ None
 none-there None answer told is = refl
 none-there (Some e) answer told is = let other : true ≡ not true = told ∙ ap not is in cc
@@ -41,7 +41,7 @@ pub some-there : (stopped : Option JournalError) (answer : Bool) → is_some sto
 some-there None answer told is none = let other : false ≡ not false = told ∙ ap not is in cc
 some-there (Some e) answer told is none = cc
 
--- what is made of the chain of a log is made of the texts that it holds: without any, nothing is
+-- what holds of a log's chain holds of its texts
 pub held-made : (s : Super) (count : ℕ) (image : Image) (transactions : ℕ) (tables : TablesValue) (P : List Text → Type 0) (texts : List Text) → HoldsTexts s count image texts →
     transactions ≡ length texts → (s.s_start ≢ 0 → tables ≡ tables_of s.s_sequence texts) →
     ((ts : List Text) → IsChainOf s count image ts → transactions ≡ length ts → tables ≡ tables_of s.s_sequence ts → P ts) → (transactions ≡ 0 → P []) → P texts
@@ -51,13 +51,13 @@ held-made s count image transactions tables P texts holds number are made none =
       | inr started ↦ made texts (holds.started started) number (are started)
     ]
 
--- the texts are the same behind the flush
+-- the texts are the same after the flush
 holds-flushed : (s t u : DeviceState) (fields : Super) (texts : List Text) → Stays s t → Moves t u (flushed t.disk Log) →
     HoldsTexts fields s.shape.home_blocks (reading s.disk) texts → HoldsTexts fields u.shape.home_blocks (reading u.disk) texts
 holds-flushed s t u fields texts stays moves holds =
     record { clean = holds.clean; started = λ started. texts-flushed s t u fields texts stays moves (holds.started started) }
 
--- the flush
+-- the flush was made
 log-flushed : (s t u : DeviceState) → Stays s t → Moves t u (flushed t.disk Log) → HasMade (Flush Log ∷ []) s u
 log-flushed s t u stays moves = stays-made (Flush Log ∷ []) s t u stays (made-one (Flush Log) t u moves)
 
@@ -73,7 +73,7 @@ module _ (s : DeviceState) (superblock : List ℕ) (fields : Super) (transaction
     own-start : fields.s_start ≡ (super_of (reading s.disk)).s_start
     own-start = ap (λ (f : Super). f.s_start) on.fields_are
 
-    -- what is told of it
+    -- the report on it
     pub read-tells : (clean : Bool) (ends_at : ℕ) → clean ≡ (fields.s_start == 0) → ends_at ≡ fields.s_sequence + transactions →
         TellsBefore (reading s.disk) texts clean ends_at transactions
     read-tells clean ends_at reported ends = record {
@@ -104,16 +104,16 @@ module _ (s : DeviceState) (superblock : List ℕ) (fields : Super) (transaction
           });
     }
 
-    -- the superblock that is left
+    -- the superblock that is written
     own-tail : (next : ℕ) → next ≡ greatest + 1 → with_tail superblock next 0 ≡ with_tail (s.disk Log 0).reads (greatest + 1) 0
     own-tail next number = ap₂ (λ (block : List ℕ) (n : ℕ). with_tail block n 0) on.superblock_is number
 
     module _ (t u x : DeviceState) (next : ℕ) (number : next ≡ greatest + 1) (stays : Stays s t) (moves : Moves t u (flushed t.disk Log)) where
-      -- the texts behind the flush
+      -- the texts after the flush
       there : HoldsTexts fields u.shape.home_blocks (reading u.disk) texts
       there = holds-flushed s t u fields texts stays moves on.holds
 
-      -- any other log is, once it is replayed and clean
+      -- any other log is opened once it is replayed and clean
       pub made-done : (fields.s_start ≡ 0 → stopped ≡ None → ⊥) →
           ((ts : List Text) → HoldsTexts fields u.shape.home_blocks (reading u.disk) ts → transactions ≡ length ts → (fields.s_start ≢ 0 → tables ≡ tables_of fields.s_sequence ts) →
           HasMade (writes_home (home_copies ts) ++ cleaning_calls (with_tail superblock next 0)) u x) →
@@ -133,7 +133,7 @@ module _ (s : DeviceState) (superblock : List ℕ) (fields : Super) (transaction
             });
       }
 
-      -- or the device failed by then
+      -- or the device failed before
       pub begun-broken : ((ts : List Text) → HoldsTexts fields u.shape.home_blocks (reading u.disk) ts → transactions ≡ length ts → (fields.s_start ≢ 0 → tables ≡ tables_of fields.s_sequence ts) →
           HasBegun (writes_home (home_copies ts) ++ cleaning_calls (with_tail superblock next 0)) u x) → IsBrokenBefore s x
       begun-broken begun =
@@ -142,7 +142,7 @@ module _ (s : DeviceState) (superblock : List ℕ) (fields : Super) (transaction
           (made-begun (Flush Log ∷ []) (writes_home (home_copies texts) ++ cleaning_calls (with_tail superblock next 0)) s u x (log-flushed s t u stays moves)
           (begun texts there on.count on.tables_are)))
 
--- why replay was refused
+-- the replay was refused
 pub replay-before : (honest : Type 0) (s t u w : DeviceState) (superblock : List ℕ) (fields : Super) (transactions greatest : ℕ) (stopped : Option JournalError) (tables : TablesValue) (e : JournalError) →
     IsWellRead s.shape superblock fields → Stays s t → Moves t u (flushed t.disk Log) → u.faults ≡ s.faults → (e ≢ Device → w.disk Log ≡ u.disk Log) →
     (honest → (texts : List Text) × IsReadBeforeOn s.shape s.disk superblock fields transactions tables greatest stopped texts) → IsReplayRefused honest fields transactions u w e →
@@ -175,13 +175,13 @@ done-before old new stopped superblock next texts greatest is =
           (made-before old.shape old.disk texts greatest stopped is.takes is.size is.small new.disk (rw made.superblock_is at made.made).disk made.due))
     ]
 
--- so the log is open
+-- then the log is open
 pub done-opened : (old new : DeviceState) (stopped : Option JournalError) (superblock : List ℕ) (next : ℕ) (texts : List Text) (greatest : ℕ) → new.shape ≡ old.shape →
     IsDoneBefore old new stopped superblock next texts greatest → IsOpenedLog new.shape new.disk superblock next
 done-opened old new stopped superblock next texts greatest same is =
     subst (λ (m : Shape). IsOpenedLog m new.disk superblock next) (sym same) (done-before old new stopped superblock next texts greatest is).log
 
--- its moments
+-- each of its moments
 pub done-each : (old new : DeviceState) (stopped : Option JournalError) (superblock : List ℕ) (next : ℕ) (texts : List Text) (greatest : ℕ) →
     IsDoneBefore old new stopped superblock next texts greatest → EachMoment (IsMomentBefore old.shape old.disk) old new
 done-each old new stopped superblock next texts greatest is =
@@ -194,7 +194,7 @@ done-each old new stopped superblock next texts greatest is =
           (before-along old.shape old.disk texts greatest stopped is.takes is.size is.small) (rw made.superblock_is at made.made)
     ]
 
--- and those of one that failed
+-- each moment of one that failed
 pub broken-each : (old new : DeviceState) → IsBrokenBefore old new → EachMoment (IsMomentBefore old.shape old.disk) old new
 broken-each old new (Reading stays) = each-stays (IsMomentBefore old.shape old.disk) old new stays (Unwritten refl)
 broken-each old new (Writing texts greatest stopped takes size small begun) =
@@ -208,7 +208,7 @@ left-named shape superblock fields transactions greatest stopped next is start n
     clean-named shape superblock fields transactions next (record { well = is.well; number = let alone = is.alone none in let small = is.number in omega arith; clean = is.clean })
     start (let alone = is.alone none in omega arith)
 
--- so does the one that is left of any other
+-- the superblock written for any other log names it too
 pub made-named : (shape : Shape) (superblock : List ℕ) (fields : Super) (transactions greatest : ℕ) (stopped : Option JournalError) (next : ℕ) →
     IsReadBefore shape superblock fields transactions greatest stopped → next ≡ greatest + 1 → IsNextNamed shape (with_tail superblock next 0) next
 made-named shape superblock fields transactions greatest stopped next is number =

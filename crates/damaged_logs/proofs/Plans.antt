@@ -1,4 +1,4 @@
--- What a plan of an opening in spite of what stops it says is what that opening does.
+-- A plan says what the opening in spite of damage does.
 use Rattle.std.proofs.Common.{◌∙◌, arith, inl, inr}
 use Rattle.std.specs.Prelude.{◌≡◌, ℕ, ◌+◌, ◌==◌, Bool, List, length, Option}
 use Rattle.journal_model.specs.declared.refusal.JournalError.{JournalError}
@@ -21,7 +21,7 @@ use Rattle.damaged_logs.specs.Planned.{IsPlannedBefore}
 use Rattle.damaged_logs.proofs.BeforeReading.{before-later, chain-held}
 use Rattle.damaged_logs.proofs.BeforeRecovering.{read-tells}
 
--- the plan of one that takes what stands before the damage
+-- the plan of one that takes the transactions before the damage
 pub is-planned-before : (s t : DeviceState) (superblock : List ℕ) (fields : Super) (transactions greatest : ℕ) (stopped : Option JournalError) →
     IsReadBefore s.shape superblock fields transactions greatest stopped → (tables : TablesValue) (texts : List Text) →
     IsReadBeforeOn s.shape s.disk superblock fields transactions tables greatest stopped texts → Stays s t → (clean : Bool) (ends_at blocks next : ℕ) →
@@ -37,7 +37,7 @@ is-planned-before s t superblock fields transactions greatest stopped is tables 
   next_is = number;
 }
 
--- why there is no plan
+-- there is no plan
 pub plan-refused-before : (honest : Type 0) (s t u : DeviceState) (superblock : List ℕ) (fields : Super) (transactions greatest : ℕ) (stopped : Option JournalError) (tables : TablesValue) (e : JournalError) →
     IsWellRead s.shape superblock fields → Stays s t → Stays t u → t.faults ≡ s.faults →
     (honest → (texts : List Text) × IsReadBeforeOn s.shape s.disk superblock fields transactions tables greatest stopped texts) →

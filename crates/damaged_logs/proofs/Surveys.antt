@@ -1,4 +1,4 @@
--- What a log holds, as it is surveyed.
+-- What a survey of a log finds.
 use Rattle.std.proofs.Common.{refl, sym, ◌∙◌, ap, subst, arith, inl, inr, ⊎_elim}
 use Rattle.std.specs.Prelude.{◌≡◌, ◌≢◌, ◌⊎◌, ℕ, ◌+◌, ◌<◌, ◌≤◌, Bool, true, false, List, [], length, Option, None, Some, MatchOption}
 use Rattle.std.specs.Option.{is_some}
@@ -26,19 +26,19 @@ pub record IsGreatestUpTo (s : Super) (image : Image) (limit place greatest : �
   pub none : (other : ℕ) → other < place → IsAhead (ring_of s) image greatest other → ⊥
   pub used : (greatest ≡ limit) ⊎ ((at : ℕ) × IsAhead (ring_of s) image limit at × (greatest ≡ sequence_in (image Log at)))
 
--- none is below the ring
+-- no block is below the ring
 pub up-to-none : (s : Super) (image : Image) (limit place : ℕ) → place ≤ s.s_first → IsGreatestUpTo s image limit place limit
 up-to-none s image limit place below = record {
   none = λ other before ahead. let low : (ring_of s).first ≤ other = ahead.low in absurd (omega arith);
   used = inl refl;
 }
 
--- a block is ahead of fewer numbers
+-- a block ahead of a number is ahead of a lesser one
 ahead-less : (s : Super) (image : Image) (less limit place : ℕ) → less ≤ limit → IsAhead (ring_of s) image limit place → IsAhead (ring_of s) image less place
 ahead-less s image less limit place below ahead =
     record { low = ahead.low; high = ahead.high; magic = ahead.magic; above = let above = ahead.above in omega arith }
 
--- one more block is looked at
+-- one more block is read
 pub up-to-more : (s : Super) (image : Image) (limit place greatest more : ℕ) (found : Option ℕ) → s.s_first ≤ place → place < (ring_of s).first + (ring_of s).blocks →
     limit ≤ greatest → greatest ≤ more → IsSequenceOf (log_block image place) found →
     MatchOption found (more ≡ greatest) (λ n. (n ≤ more) × ((more ≡ greatest) ⊎ (more ≡ n))) → IsGreatestUpTo s image limit place greatest →
@@ -72,7 +72,7 @@ up-to-more s image limit place greatest more (Some n) low high least over is at 
   ];
 }
 
--- all of them are
+-- all blocks are read
 pub up-to-all : (s : Super) (image : Image) (limit greatest : ℕ) → limit ≤ greatest → IsGreatestUpTo s image limit ((ring_of s).first + (ring_of s).blocks) greatest →
     IsGreatest s image limit greatest
 up-to-all s image limit greatest least so = record {
@@ -81,7 +81,7 @@ up-to-all s image limit greatest least so = record {
   used = so.used;
 }
 
--- where no block is ahead, the limit is the greatest number
+-- if no block is ahead, the limit is the greatest number
 pub limit-greatest : (s : Super) (image : Image) (limit : ℕ) → NoneAhead s image limit → IsGreatest s image limit limit
 limit-greatest s image limit none = record { not_below = omega arith; none_ahead = none; used = inl refl }
 
@@ -96,7 +96,7 @@ module _ (s : Super) (count : ℕ) (image : Image) (end : ChainEnd) (has : HasEn
             (ends.texts, record { clean = λ clean. absurd (started clean); started = λ other. ends.chain }, ends.number)
       ]
 
-  -- they are complete where no block is damaged
+  -- they are complete if no block is damaged
   pub end-transactions : end.damaged ≡ None → HasTransactions s count image end.transactions
   end-transactions none = record {
     clean = λ clean. ap (λ (e : ChainEnd). e.transactions) (has.clean clean);
@@ -109,7 +109,7 @@ module _ (s : Super) (count : ℕ) (image : Image) (end : ChainEnd) (has : HasEn
   damaged-started : (place : ℕ) → end.damaged ≡ Some place → s.s_start ≢ 0
   damaged-started place is clean = let none = ap (λ (e : ChainEnd). e.damaged) (has.clean clean) in cc
 
-  -- why the tests refuse it, or that they don't
+  -- the tests refuse it for this, or do not
   stopped-by : (ahead : Option ℕ) → MatchOption ahead (NoneAhead s image (s.s_sequence + end.transactions)) (IsLowestAhead s image (s.s_sequence + end.transactions)) →
       (damaged : Option ℕ) → end.damaged ≡ damaged →
       MatchOption (refusal_of damaged ahead) (IsTested s count image end.transactions) (λ e. (e ≢ SequenceEnd) × IsRefusedLog s count image e)
@@ -156,7 +156,7 @@ module _ (s : Super) (old t u : DeviceState) (end : ChainEnd) (ahead : Option �
         (subst (λ (n : ℕ). IsGreatest s (reading old.disk) n greatest) limit_is
         (subst (λ (d : Disk). IsGreatest s (reading d) limit greatest) (second.disk ∙ first.disk) is)))
 
-    -- where no block is ahead, it is the limit
+    -- if no block is ahead, it is the limit
     pub surveyed-limit : (some : Bool) → some ≡ is_some ahead → some ≡ false → (refused : Option JournalError) → refused ≡ refusal_of end.damaged ahead →
         IsSurveyed s old.shape.home_blocks (reading old.disk) end.transactions limit refused
     surveyed-limit some is isnt refused same =

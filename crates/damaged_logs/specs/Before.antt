@@ -1,5 +1,4 @@
--- Opening a log in spite of a damaged block, or of blocks that are ahead: what is taken of it, what that leaves, and what holds at each
--- moment. This project's own.
+-- Which transactions an opening in spite of damage takes, what it leaves, and what holds at each moment. This project's own.
 use Rattle.std.specs.Prelude.{◌≡◌, ◌≢◌, ◌⊎◌, ℕ, ◌+◌, ◌<◌, ◌≤◌, ◌==◌, Bool, List, [], length, Option, None, Some, MatchOption}
 use Rattle.journal_model.specs.declared.number.Area.TheVariants.{Log, Home}
 use Rattle.journal_model.specs.declared.refusal.JournalError.{JournalError}
@@ -20,34 +19,33 @@ use Rattle.log_scan.specs.Scanning.{IsChainOf}
 use Rattle.journal_world.specs.Opening.{IsOpenedLog}
 use Rattle.recovery.specs.Opening.{NoneAhead}
 
--- the transactions of an accepted image that are taken: those of its chain, whatever stands behind it, and none of a clean log
+-- the transactions of the chain, whatever follows; none of a clean log
 pub data AreTaken (shape : Shape) (image : Image) : List Text → Type 0 where
   OfClean : IsClean shape image → AreTaken shape image []
   OfChain : (texts : List Text) → IsStarted shape image → IsChainOf (super_of image) shape.home_blocks image texts → AreTaken shape image texts
 
--- the number behind the last of them
 abbrev pub end_of : Image → List Text → ℕ
 end_of image texts = (super_of image).s_sequence + length texts
 
--- the greatest number in use: this one, or that of a ring block with a greater one
+-- the greatest number in use: this one, or that of a ring block above it
 pub record IsGreatest (s : Super) (image : Image) (end greatest : ℕ) : Type 0 where
   pub not_below : end ≤ greatest
   pub none_ahead : NoneAhead s image greatest
   pub used : (greatest ≡ end) ⊎ ((place : ℕ) × IsAhead (ring_of s) image end place × (greatest ≡ sequence_in (image Log place)))
 
--- the refusal of an opening that this one passes over: damage, or a block that is ahead
+-- the refusal that is passed over, if any: damage, or a block ahead
 abbrev pub IsPassedOver : Shape → Image → Option JournalError → Type 0
 IsPassedOver shape image stopped =
     MatchOption stopped ((e : JournalError) → e ≢ SequenceEnd → IsRefused shape image e → ⊥) (λ e. (e ≢ SequenceEnd) × IsRefused shape image e)
 
--- what is taken of an image: these transactions, with this greatest number in use, in spite of this refusal
+-- these transactions are taken, with this greatest number in use, in spite of this refusal
 pub record Takes (shape : Shape) (image : Image) (texts : List Text) (greatest : ℕ) (stopped : Option JournalError) : Type 0 where
   pub taken : AreTaken shape image texts
   pub greatest_is : IsGreatest (super_of image) image (end_of image texts) greatest
   pub passed_over : IsPassedOver shape image stopped
 
--- What it leaves: home is the replay of what is taken. The log is clean, and opened with the number behind the greatest in use. No
--- other block of the log is written, and none at all where the log was clean and nothing stopped.
+-- Home is the replay of the transactions taken; the log is clean and opened, with the number after the greatest in use. Of the log only
+-- block 0 is written, and nothing if it was clean and nothing stopped.
 pub record IsOpeningBefore (shape : Shape) (old new : Disk) (texts : List Text) (greatest : ℕ) (stopped : Option JournalError) (superblock : List ℕ) (next : ℕ) : Type 0 where
   pub takes : Takes shape (reading old) texts greatest stopped
   pub number : next ≡ greatest + 1
@@ -56,14 +54,13 @@ pub record IsOpeningBefore (shape : Shape) (old new : Disk) (texts : List Text) 
   pub others : (n : ℕ) → n ≢ 0 → new Log n ≡ flushed old Log Log n
   pub untouched : (super_of (reading old)).s_start ≡ 0 → stopped ≡ None → new ≡ flushed old Log
 
--- what it tells of them
 pub record TellsBefore (image : Image) (texts : List Text) (clean : Bool) (ends_at transactions : ℕ) : Type 0 where
   pub clean_is : clean ≡ ((super_of image).s_start == 0)
   pub end_is : ends_at ≡ end_of image texts
   pub count : transactions ≡ length texts
 
--- The same call makes the same home of an image that a stop left: some transactions are taken of it, and their replay gives each block
--- its newest copy in the texts; a block that has none there has what a stop might have left of it before.
+-- The same call makes the same home of a crash image: each block gets its newest copy in the texts; one without a copy has what a crash
+-- might have left before.
 pub record GivesSame (shape : Shape) (old : Disk) (texts : List Text) (image : Image) : Type 0 where
   pub again : List Text
   pub taken : AreTaken shape image again
@@ -71,8 +68,8 @@ pub record GivesSame (shape : Shape) (old : Disk) (texts : List Text) (image : I
   pub replayed : IsReplayed shape.home_blocks again (image Home) got
   pub same : (b : ℕ) → b < shape.home_blocks → IsNewest texts b (got b) ⊎ (HasNoLive texts b × IsOneOf (held (old Home b)) (got b))
 
--- A moment of it: nothing is written yet; or the log was flushed, and each image that a stop may leave gives the same home. Home has
--- gained newest copies of what is taken alone, and of the log block 0 alone is written, with the superblock of the clean log.
+-- Nothing is written yet; or the log was flushed, and each crash image gives the same home. Home gained newest copies alone, and of the
+-- log only block 0 is written, with the clean superblock.
 pub data IsMomentBefore (shape : Shape) (old disk : Disk) : Type 0 where
   Unwritten : disk ≡ old → IsMomentBefore shape old disk
   Past : (texts : List Text) (greatest : ℕ) (stopped : Option JournalError) → Takes shape (reading old) texts greatest stopped →
@@ -81,15 +78,14 @@ pub data IsMomentBefore (shape : Shape) (old disk : Disk) : Type 0 where
       ((v : List ℕ) → IsOneOf (held (disk Log 0)) v → (v ≡ (old Log 0).reads) ⊎ (v ≡ with_tail (old Log 0).reads (greatest + 1) 0)) →
       IsMomentBefore shape old disk
 
--- some transactions are taken of the image, and the greatest number in use is this
 pub record HasGreatest (shape : Shape) (image : Image) (greatest : ℕ) : Type 0 where
   pub texts : List Text
   pub stopped : Option JournalError
   pub takes : Takes shape image texts greatest stopped
 
--- Why it is refused: the device failed; memory ran out, though the superblock is not refused and numbers are left; the superblock is
--- refused; no number is left; or reads were not honest, and then the log is as it was, or as its flush left it. But for the first and
--- the last cause nothing was written.
+-- The device failed; memory ran out, with an accepted superblock and a number left (if blocks have at most 4096 bytes); the superblock
+-- is refused; no number is left; or reads were not correct, and the log is as it was, or as its flush left it. Only by the first and
+-- last cause may something be written.
 pub data BeforeRefused (honest : Type 0) (old new : DeviceState) : JournalError → Type 0 where
   ByDevice : new.faults ≡ one_more_fault old.faults → BeforeRefused honest old new Device
   ByMemory : Stays old new → new.faults ≡ old.faults →

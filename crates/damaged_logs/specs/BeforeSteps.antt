@@ -1,4 +1,4 @@
--- What is found on the way of an opening in spite of what stopped it, and which calls it makes.
+-- What an opening in spite of damage finds, and which calls it makes.
 use Rattle.std.specs.Prelude.{◌≡◌, ◌≢◌, ◌⊎◌, ℕ, ◌+◌, ◌<◌, ◌≤◌, List, [], ◌∷◌, ◌++◌, length, Option, None, Some, MatchOption}
 use Rattle.journal_model.specs.declared.number.Area.TheVariants.{Log}
 use Rattle.journal_model.specs.declared.refusal.JournalError.{JournalError}
@@ -18,23 +18,23 @@ use Rattle.recovery.specs.HomeCopies.{home_copies}
 use Rattle.recovery.specs.Opening.{IsRefusedLog, IsTested, IsWellRead}
 use Rattle.damaged_logs.specs.Before.{IsGreatest, Takes}
 
--- the refusal of an opening that finds this block damaged, or none, and this one the lowest that is ahead, or none
+-- the first damaged block, if any, else the lowest block ahead, if any
 abbrev pub refusal_of : Option ℕ → Option ℕ → Option JournalError
 refusal_of (Some place) ahead = Some (Damage place)
 refusal_of None (Some place) = Some (Ahead place)
 refusal_of None None = None
 
--- where the chain of a log ends: a clean log has none
+-- a clean log has no chain
 pub record HasEnd (s : Super) (count : ℕ) (image : Image) (end : ChainEnd) : Type 0 where
   pub clean : s.s_start ≡ 0 → end ≡ record { transactions = 0; damaged = None }
   pub started : s.s_start ≢ 0 → IsEndOf s count image end
 
--- the texts of a log are these: those of its chain, or none where it is clean
+-- the texts of the chain; none in a clean log
 pub record HoldsTexts (s : Super) (count : ℕ) (image : Image) (texts : List Text) : Type 0 where
   pub clean : s.s_start ≡ 0 → texts ≡ []
   pub started : s.s_start ≢ 0 → IsChainOf s count image texts
 
--- what the ring of a log holds: so many transactions, this greatest number in use, and why its tests would refuse it, numbers aside
+-- its transactions, the greatest number in use, and the refusal of its tests, numbers aside
 pub record IsSurveyed (s : Super) (count : ℕ) (image : Image) (transactions greatest : ℕ) (stopped : Option JournalError) : Type 0 where
   pub texts : List Text
   pub holds : HoldsTexts s count image texts
@@ -42,7 +42,7 @@ pub record IsSurveyed (s : Super) (count : ℕ) (image : Image) (transactions gr
   pub greatest_is : IsGreatest s image (s.s_sequence + transactions) greatest
   pub stopped_is : MatchOption stopped (IsTested s count image transactions) (λ e. (e ≢ SequenceEnd) × IsRefusedLog s count image e)
 
--- what is known of a log that was read, whatever the device answered: block 0 is accepted, and a number is left
+-- whatever the device answered, block 0 is accepted and a number is left
 pub record IsReadBefore (shape : Shape) (superblock : List ℕ) (fields : Super) (transactions greatest : ℕ) (stopped : Option JournalError) : Type 0 where
   pub well : IsWellRead shape superblock fields
   pub number : greatest < greatest_number
@@ -50,7 +50,7 @@ pub record IsReadBefore (shape : Shape) (superblock : List ℕ) (fields : Super)
   pub clean : fields.s_start ≡ 0 → transactions ≡ 0
   pub alone : stopped ≡ None → greatest ≡ fields.s_sequence + transactions
 
--- what was read stands on the disk: this is taken of it, and these tables are those of its texts
+-- this is taken of the disk, and the tables are those of its texts
 pub record IsReadBeforeOn (shape : Shape) (disk : Disk) (superblock : List ℕ) (fields : Super) (transactions : ℕ) (tables : TablesValue) (greatest : ℕ) (stopped : Option JournalError) (texts : List Text) : Type 0 where
   pub takes : Takes shape (reading disk) texts greatest stopped
   pub superblock_is : superblock ≡ (disk Log 0).reads
@@ -59,11 +59,10 @@ pub record IsReadBeforeOn (shape : Shape) (disk : Disk) (superblock : List ℕ) 
   pub holds : HoldsTexts fields shape.home_blocks (reading disk) texts
   pub tables_are : fields.s_start ≢ 0 → tables ≡ tables_of fields.s_sequence texts
 
--- the calls of an opening in spite of what stopped it, where it leaves this superblock
 abbrev pub before_calls : List Text → List ℕ → List Call
 before_calls texts superblock = Flush Log ∷ writes_home (home_copies texts) ++ cleaning_calls superblock
 
--- a clean log that nothing stopped was flushed, and that is all
+-- a clean log that nothing stopped was only flushed
 pub record IsLeftClean (old new : DeviceState) (stopped : Option JournalError) (superblock : List ℕ) (texts : List Text) (greatest : ℕ) : Type 0 where
   pub none : texts ≡ []
   pub clean : (super_of (reading old.disk)).s_start ≡ 0
@@ -71,13 +70,13 @@ pub record IsLeftClean (old new : DeviceState) (stopped : Option JournalError) (
   pub superblock_is : superblock ≡ (old.disk Log 0).reads
   pub made : HasMade (Flush Log ∷ []) old new
 
--- in any other case the copies went home, and the log was left clean
+-- otherwise copies went home, and the log was left clean
 pub record IsMadeClean (old new : DeviceState) (stopped : Option JournalError) (superblock : List ℕ) (texts : List Text) (greatest : ℕ) : Type 0 where
   pub due : (super_of (reading old.disk)).s_start ≡ 0 → stopped ≡ None → ⊥
   pub superblock_is : superblock ≡ with_tail (old.disk Log 0).reads (greatest + 1) 0
   pub made : HasMade (before_calls texts superblock) old new
 
--- an opening in spite of what stopped it that ended: the calls were made that are due for what it takes
+-- the due calls for what it takes were made
 pub record IsDoneBefore (old new : DeviceState) (stopped : Option JournalError) (superblock : List ℕ) (next : ℕ) (texts : List Text) (greatest : ℕ) : Type 0 where
   pub takes : Takes old.shape (reading old.disk) texts greatest stopped
   pub size : length (old.disk Log 0).reads ≡ old.shape.block_size
@@ -85,13 +84,12 @@ pub record IsDoneBefore (old new : DeviceState) (stopped : Option JournalError) 
   pub number : next ≡ greatest + 1
   pub made : IsLeftClean old new stopped superblock texts greatest ⊎ IsMadeClean old new stopped superblock texts greatest
 
--- such an opening was done, whatever it takes
 pub record HasDoneBefore (old new : DeviceState) (stopped : Option JournalError) (superblock : List ℕ) (next : ℕ) : Type 0 where
   pub texts : List Text
   pub greatest : ℕ
   pub is : IsDoneBefore old new stopped superblock next texts greatest
 
--- one that the device failed in: it came no farther than to read, or some of the calls were made that are due for what it takes
+-- it only read, or made some of the due calls for what it takes
 pub data IsBrokenBefore (old new : DeviceState) : Type 0 where
   Reading : Stays old new → IsBrokenBefore old new
   Writing : (texts : List Text) (greatest : ℕ) (stopped : Option JournalError) → Takes old.shape (reading old.disk) texts greatest stopped →

@@ -1,4 +1,4 @@
--- What an opening in spite of what stops it would do to a disk, found out without doing it.
+-- What an opening in spite of damage would do to a disk.
 use Rattle.std.specs.Prelude.{◌≡◌, ℕ, ◌+◌, Bool, List, length, Option}
 use Rattle.journal_model.specs.declared.refusal.JournalError.{JournalError}
 use Rattle.journal_model.specs.Disk.{Disk, Shape, reading}
@@ -6,8 +6,7 @@ use Rattle.log_model.specs.declared.log.Text.{Text}
 use Rattle.recovery.specs.HomeCopies.{home_copies}
 use Rattle.damaged_logs.specs.Before.{Takes, TellsBefore}
 
--- an opening takes this of the disk, in spite of this refusal, and so tells this, writes so many blocks home, and gives this number to
--- the next transaction
+-- it takes this in spite of this refusal, reports this, writes so many blocks home, and gives the next transaction this number
 pub record IsPlannedBefore (shape : Shape) (disk : Disk) (stopped : Option JournalError) (clean : Bool) (ends_at transactions blocks next : ℕ) : Type 0 where
   pub texts : List Text
   pub greatest : ℕ

@@ -1,4 +1,4 @@
-//! Opening a log in spite of a damaged block, or of blocks that are ahead: the complete transactions before the damage are taken.
+//! How a log is opened in spite of damage, or of blocks ahead: with the complete transactions before it.
 ghost use Rattle.std.specs.Prelude.{◌≡◌, ◌≢◌, ◌+◌, ◌<◌, ◌≤◌, ◌==◌, ◌^◌, ◌++◌, List, ℕ, length, OnErr, OnOk, IfOk, IfErr, MatchResult};
 ghost use Rattle.journal_model.specs.declared.number.Area.TheVariants.{Log as LogArea};
 ghost use Rattle.journal_model.specs.declared.refusal.JournalError.TheVariants.{BadLength, Device as DeviceFailed};
@@ -28,13 +28,11 @@ use std::alloc::Global;
 /// A log that was read, whatever stands in it.
 #[derive(Drop)]
 pub(crate) struct ReadLog {
-    /// Block 0.
     pub(crate) superblock: Vec<u8>,
-    /// The fields of its superblock.
     pub(crate) log: Log,
-    /// How many complete transactions its chain has.
+    /// The complete transactions of its chain.
     pub(crate) transactions: u64,
-    /// What replay goes by.
+    /// What the replay uses.
     pub(crate) tables: Tables,
     pub(crate) finder: Finder,
     /// The greatest number in use.
@@ -43,26 +41,25 @@ pub(crate) struct ReadLog {
     pub(crate) stopped_by: Option<JournalError>,
 }
 
-/// Opens the log of a device that `recovery::open` refuses with `Damage` or `Ahead`, and takes what can be taken of it: the complete
-/// transactions that stand before the damaged block, or where a block is ahead, those of the chain as it is read. They are replayed
-/// to home, and the log is left clean. What stands behind the damage is given up, also complete transactions of which the chain
-/// can't be followed to them.
+/// Opens a log that `recovery::open` refuses with `Damage` or `Ahead`. It replays the complete transactions before the damaged block,
+/// or those of the chain if a block is ahead, and leaves the log clean. All that follows is given up, also complete transactions to
+/// which the chain does not lead. A log that `open` accepts is opened in the same way.
 ///
-/// Beside the opened log the answer is what `open` refuses the log with, numbers aside, or none where it refuses nothing. The report
-/// tells which transactions were taken: so many, up to the number before `ends_at`. The next number is one more than the greatest in
-/// use, that of `ends_at` or of a ring block that begins with the magic, so that nothing which was given up can be taken for a part of
-/// a later transaction. A log that `open` takes is opened as by it.
+/// The answer has the opened log, and the refusal of `open` (`SequenceEnd` aside), if any. The report counts the transactions taken,
+/// which end before the number `ends_at`. The next number is one more than the greatest in use, so that nothing given up can be taken
+/// for part of a later transaction.
 ///
-/// The calls are those of `open`, and a flush of home, the write of the superblock and a flush of the log also where a clean log has a
-/// block that is ahead. Once the first flush of the log has succeeded, a stop leaves an image of which the same call makes the same
-/// home.
+/// It calls the device as `open` does; for a clean log with a block ahead it also flushes home, writes the superblock and flushes the
+/// log. After the first flush of the log, the same call makes the same home of every crash image.
 ///
 /// # Errors
 ///
-/// The device comes back with the refusal. `BadMagic` to `ErrnoSet`: the superblock; `SequenceEnd`: no number is left above those in
-/// use; `Memory` where memory ran out: nothing is written. `BadLength` where the log area has no block: no call is made. `Device`
-/// where the device failed: home and the superblock may have been written. `Damage` where the log reads otherwise in a later pass than
-/// in the first, which only a device does whose reads are not honest: some copies may be home, and the log is left as it was.
+/// The device comes back with the refusal.
+/// - `BadLength`, if the log area has no block: no call is made.
+/// - `BadMagic` to `ErrnoSet`: the superblock's tests; `SequenceEnd`: no number is left; `Memory`: memory ran out. Nothing is written.
+/// - `Device`: home and the superblock may have been written.
+/// - `Damage`: the log read differently in a later pass, as only incorrect reads do. Some copies may be home; the log is as it was.
+///
 /// Source: this project's own; fs/jbd2 takes what it finds before the first block that it can't follow.
 pub fn open_before_damage<D: Device>(
     alloc: Global,
@@ -98,8 +95,7 @@ pub fn open_before_damage<D: Device>(
     }
 }
 
-/// Reads the log, takes what stands in its chain, and leaves it clean. The answer is block 0, the number of the next transaction,
-/// what was taken, and why `open` refuses the log.
+/// Answers block 0, the next number, the report, and the refusal of `open`.
 fn recover_before<D: Device>(
     alloc: Global,
     device: &mut D,
@@ -126,8 +122,8 @@ fn recover_before<D: Device>(
     Ok((superblock, Tid(next), report, stopped_by))
 }
 
-/// Reads the log and goes over its chain and its ring, which takes no memory where blocks have at most 4096 bytes. Then it gathers
-/// what replay goes by. Nothing is written, and all memory that is needed is taken.
+/// Scans chain and ring without memory (for blocks of at most 4096 bytes), then gathers what the replay uses. It writes nothing, and
+/// takes all memory that is needed.
 pub(crate) fn read_log<D: Device>(alloc: Global, device: &mut D) -> Result<ReadLog, JournalError>
     requires some { 0 < (D.state device.old).shape.log_blocks }
     ensures read { IfOk result (λ r. IsReadBefore (D.state device.old).shape r.superblock.items r.log r.transactions r.greatest r.stopped_by) }
@@ -156,7 +152,6 @@ pub(crate) fn read_log<D: Device>(alloc: Global, device: &mut D) -> Result<ReadL
     })
 }
 
-/// What is told of a log that was read.
 pub(crate) fn report_of(read: &ReadLog) -> Report
     requires { read.now.log.s_sequence + read.now.transactions < 2 ^ 64 }
     ensures clean { result.clean ≡ (read.now.log.s_start == 0) }
@@ -170,7 +165,7 @@ pub(crate) fn report_of(read: &ReadLog) -> Report
     }
 }
 
-/// Replays a log that was read and flushed, and leaves it clean with this number. The answer is block 0.
+/// Replays a log that was read and flushed, and leaves it clean with this number. Answers block 0.
 fn leave_clean<D: Device>(device: &mut D, read: ReadLog, next: u32) -> Result<Vec<u8>, JournalError>
     requires layout { read.finder.layout ≡ layout_of read.log }
     requires accepted { IsAccepted (D.state device.old).shape.block_size (D.state device.old).shape.log_blocks read.log }

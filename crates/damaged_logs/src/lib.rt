@@ -1,8 +1,5 @@
-//! Opens a log in spite of a damaged block, or of blocks that are ahead, and says what this would do.
-//!
-//! `surveying` goes over a log to the end of its chain, and over its ring, whatever stands there. `before_damage` takes the complete
-//! transactions that it finds, with the passes of `recovery`, and `planning` says what that would do.
-//! What is taken and what that leaves is said by `specs/Before.antt`, and which calls are made by `specs/BeforeSteps.antt`.
+//! Opens a log in spite of damage, or of blocks ahead, and says what this would do. `specs/Before.antt` says which
+//! transactions are taken.
 #![tactic(auto)]
 
 mod before_damage;

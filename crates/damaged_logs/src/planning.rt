@@ -1,4 +1,4 @@
-//! What an opening in spite of damage would do, found out without doing it.
+//! What an opening in spite of damage would do, without doing it.
 ghost use Rattle.std.specs.Prelude.{◌≡◌, IfErr, IfOk, OnOk};
 ghost use Rattle.block_device.specs.Call.{OnlyReads};
 ghost use Rattle.damaged_logs.specs.Before.{BeforeRefused};
@@ -10,12 +10,11 @@ use journal_model::{Area, JournalError, Tid};
 use recovery::{Plan, count_copies, number_from};
 use std::alloc::Global;
 
-/// What `open_before_damage` would do to the log of this device, and what it would pass over, with nothing written and nothing
-/// flushed.
+/// What `open_before_damage` would do to this log, and which refusal it would pass over. Nothing is written or flushed.
 ///
 /// # Errors
 ///
-/// Those of `open_before_damage`; nothing is written.
+/// As `open_before_damage`.
 pub fn plan_before_damage<D: Device>(
     alloc: Global,
     device: &mut D,

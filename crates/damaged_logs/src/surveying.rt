@@ -1,4 +1,4 @@
-//! What a log holds, whatever stands in it: how far its chain goes, which numbers are in use, and why an opening refuses it.
+//! How far a log's chain goes, which numbers are in use, and why an opening refuses it.
 ghost use Rattle.std.specs.Prelude.{◌≡◌, ◌⊎◌, ◌+◌, ◌≤◌, None, IfOk, MatchOption, MatchResult};
 ghost use Rattle.journal_model.specs.Disk.{reading};
 ghost use Rattle.log_model.specs.Opening.{layout_of, ring_of};
@@ -14,18 +14,17 @@ use journal_model::{Area, JournalError};
 use log_scan::{ChainEnd, Finder, Log, find_end};
 use recovery::lowest_ahead;
 
-/// What the ring of a log holds.
 #[derive(Clone, Copy)]
 pub(crate) struct Survey {
-    /// How many complete transactions its chain has: none where the log is clean.
+    /// The complete transactions of its chain; 0 in a clean log.
     pub(crate) transactions: u64,
-    /// The greatest number in use: the one behind the last of these, or that of a ring block with a greater one.
+    /// The number after these transactions, or that of a ring block above it.
     pub(crate) greatest: u64,
-    /// Why an opening refuses the log, where a block is damaged or ahead.
+    /// The refusal for a damaged block, or for one ahead.
     pub(crate) stopped_by: Option<JournalError>,
 }
 
-/// Goes over a log to the end of its chain, and over its ring. Nothing that stands there is refused, and no memory is taken.
+/// Scans chain and ring. It refuses no content, and takes no memory.
 pub(crate) fn survey_ring<D: Device>(
     device: &mut D,
     log: &Log,
@@ -55,7 +54,7 @@ pub(crate) fn survey_ring<D: Device>(
     })
 }
 
-/// Where the chain of a log ends: a clean log has none.
+/// Where the chain of a log ends; a clean log has none.
 fn chain_end<D: Device>(
     device: &mut D,
     log: &Log,
@@ -93,7 +92,7 @@ fn refusal(damaged: Option<u64>, ahead: Option<u64>) -> Option<JournalError>
     None
 }
 
-/// The greatest number of a ring block that begins with the magic, or this limit, where none is above that.
+/// The greatest number of a ring block with the magic, at least `limit`.
 fn greatest_in_ring<D: Device>(
     device: &mut D,
     log: &Log,
@@ -117,7 +116,6 @@ fn greatest_in_ring<D: Device>(
     Ok(greatest)
 }
 
-/// The greater one of a number and the sequence in a block's header, if it begins with the magic.
 fn greater(number: u64, sequence: Option<u32>) -> u64
     ensures least { number ≤ result }
     ensures above { MatchOption sequence (result ≡ number) (λ n. (n ≤ result) × ((result ≡ number) ⊎ (result ≡ n))) }

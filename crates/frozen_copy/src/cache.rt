@@ -1,4 +1,4 @@
-//! What two transactions leave of each block that they touch: the one that runs, and the one that is being committed.
+//! Which entries of each block the running and the committing transaction have.
 ghost use Rattle.std.specs.Prelude.{◌≡◌, [], nat_eq, IsOk, IsSome, OnOk, OnErr};
 ghost use Rattle.std.specs.Map.{lookup};
 ghost use Rattle.std.specs.Option.{option_copied};
@@ -10,16 +10,14 @@ use journal_model::{BlockNo, Entry};
 use std::alloc::{AllocError, Global};
 use std::marker::Model;
 
-/// The entries of two transactions by block: of the one that runs, and of the one that is being committed. Contracts see two finite
-/// maps, each as a list of its blocks with their entries, in the order of the first writes.
+/// The entries of two transactions by block: the running one and the one being committed. Contracts see two finite maps, as lists
+/// of blocks with their entries, in the order of first writes.
 ///
-/// A seal has the two maps change places, and a finish empties one: both keep their room, so that a transaction takes memory for
-/// its map only where it touches more blocks than those before it did.
+/// A seal swaps the maps, and a finish empties one; both keep their memory. So a transaction takes memory only if it touches more
+/// blocks than earlier ones did.
 #[derive(Drop)]
 pub struct VersionCache {
-    /// Those of the transaction that runs.
     running: IndexMap<BlockNo, Entry>,
-    /// Those of the one that is being committed.
     committing: IndexMap<BlockNo, Entry>,
 }
 
@@ -32,7 +30,7 @@ impl Model for VersionCache {
 }
 
 impl VersionCache {
-    /// No entries. It takes no memory.
+    /// No entries, without memory.
     pub fn new(alloc: Global) -> Self
         ensures { result ≡ record { running = []; committing = [] } }
     {
@@ -42,12 +40,12 @@ impl VersionCache {
         }
     }
 
-    /// Notes what the transaction that runs leaves of a block: in the place of what it left of it before, or else behind its other
-    /// blocks. The entries of the transaction that is being committed stay as they are.
+    /// Notes what the running transaction leaves of a block: in place of its earlier entry, else after its other blocks. The
+    /// entries of the one being committed stay.
     ///
     /// # Errors
     ///
-    /// Memory ran out: nothing changes. A block of which the transaction that runs has an entry takes none.
+    /// `AllocError` if memory ran out: nothing changes. A block that the running transaction has takes no memory.
     pub fn write(&mut self, block: BlockNo, entry: Entry) -> Result<(), AllocError>
         ensures running { OnOk result (self.new.running ≡ insert_entry nat_eq self.old.running block entry) }
         ensures committing { self.new.committing ≡ self.old.committing }
@@ -58,8 +56,8 @@ impl VersionCache {
         Ok(())
     }
 
-    /// The transaction that runs is the one that is being committed from now on, and the next one has no entries. It copies
-    /// nothing, and takes no memory. The caller's condition: the transaction before is finished.
+    /// Makes the running transaction the one being committed; the next one has no entries. It copies nothing and takes no memory.
+    /// The transaction before must be finished.
     pub fn seal(&mut self)
         requires { self.old.committing ≡ [] }
         ensures { self.new ≡ record { running = []; committing = self.old.running } }
@@ -67,28 +65,28 @@ impl VersionCache {
         std::mem::swap(&mut self.running, &mut self.committing);
     }
 
-    /// The transaction that was being committed is finished, and its entries are dropped.
+    /// Finishes the transaction being committed, and drops its entries.
     pub fn finish(&mut self)
         ensures { self.new ≡ record { running = self.old.running; committing = [] } }
     {
         self.committing.clear();
     }
 
-    /// The entries of the transaction that runs, in the order of the first writes.
+    /// The entries of the running transaction, in the order of first writes.
     pub fn running(&self) -> &IndexMap<BlockNo, Entry>
         ensures { result.now.entries ≡ self.now.running }
     {
         &self.running
     }
 
-    /// The entry of a block by the transaction that is being committed.
+    /// The entry of a block by the transaction being committed.
     pub fn committing(&self, block: BlockNo) -> Option<&Entry>
         ensures { option_copied result ≡ lookup (nat_eq block) self.now.committing }
     {
         self.committing.get(&block)
     }
 
-    /// The newer entry of a block: that of the transaction that runs, or else that of the one that is being committed.
+    /// The newer entry of a block: that of the running transaction, else that of the one being committed.
     pub fn get(&self, block: BlockNo) -> Option<&Entry>
         ensures { option_copied result ≡ newer self.now block }
     {

@@ -102,21 +102,21 @@ module _ {D : Type 0} (state : D → DeviceState) where
   abbrev ComesBy : JournalValue D → JournalValue D → Type 0
   ComesBy old new = ComesTo old.journal (state old.device).disk new.journal (state new.device).disk Running
 
-  -- one step is such a way
+  -- one step is such a path
   by-step : (old new : JournalValue D) (event : Event) → ((directs : List (ℕ × List ℕ)) → with_directs event directs ≡ directs) → Does state old event new →
       ComesBy old new
   by-step old new event indirect does = comes-step old.journal new.journal (state old.device).disk (state new.device).disk event indirect does
 
-  -- two ways make one
+  -- two paths make one
   pub ways : (a b c : JournalValue D) → ComesBy a b → ComesBy b c → ComesBy a c
   ways a b c one two = comes-behind a.journal b.journal c.journal (state a.device).disk (state b.device).disk (state c.device).disk Running one two
 
-  -- locking a transaction that a handle has joined is a way
+  -- locking a transaction that a handle has joined is a path
   by-lock : (v : JournalValue D) → v.journal.front.aborted ≡ false → 0 < length v.journal.front.running.handles → ComesBy v (locked_journal v)
   by-lock v running joined =
       by-step v (locked_journal v) (FrontStep Lock) (λ directs. refl) (record { front = record { running = running; joined = joined; after = refl }; engine = refl; disk_is = refl })
 
-  -- a front that differs only in what it was told stays so through an equality
+  -- a front that differs only in `finished`, `mark` and `aborted` stays so through an equality
   told-only : (old made new : Front) → new ≡ made → made ≡ told_as old made → new ≡ told_as old new
   told-only old made new is only = is ∙ only ∙ ap (told_as old) (sym is)
 
@@ -127,7 +127,7 @@ module _ {D : Type 0} (state : D → DeviceState) where
   pub same-running : (old new : JournalValue D) → GoesOn state old new → new.journal.front.running ≡ old.journal.front.running
   same-running old new on = ap (λ (f : Front). f.running) on.front
 
-  -- steps that go on, after others, go on
+  -- two runs of commit and checkpoint steps make one
   on-on : (a b c : JournalValue D) → GoesOn state a b → GoesOn state b c → GoesOn state a c
   on-on a b c one two =
       let low : a.journal.engine.committed ≤ b.journal.engine.committed = one.committed in
@@ -142,7 +142,7 @@ module _ {D : Type 0} (state : D → DeviceState) where
         path = ways a b c one.path two.path;
       }
 
-  -- no steps at all go on
+  -- no step at all is such a run
   pub went-nowhere : (v : JournalValue D) → v.journal.engine.aborted ≡ false → Went state v v
   went-nowhere v running = record {
     on = record {
@@ -164,11 +164,11 @@ module _ {D : Type 0} (state : D → DeviceState) where
   pub went-wrong : (a b c : JournalValue D) → Went state a b → WentWrong state b c → WentWrong state a c
   went-wrong a b c one two = record { on = on-on a b c one.on two.on; aborted = two.aborted; faults = two.faults ∙ ap one_more_fault one.faults }
 
-  -- steps go on from an equal journal
+  -- a run may start from an equal journal
   pub went-from : (old ready new : JournalValue D) → ready ≡ old → Went state ready new → Went state old new
   went-from old ready new same went = subst (λ (v : JournalValue D). Went state v new) same went
 
-  -- they go on for either later answer
+  -- two runs make one, whatever the later answer
   pub went-on : {T : Type 0} (r : Result T JournalError) (old mid new : JournalValue D) → Went state old mid → OnOk r (Went state mid new) →
       OnOk r (Went state old new)
   went-on (Ok x) old mid new one two = went-went old mid new one two
@@ -179,7 +179,7 @@ module _ {D : Type 0} (state : D → DeviceState) where
   wrong-on (Ok x) old mid new one wrong = tt
   wrong-on (Err e) old mid new one wrong = (wrong.0, went-wrong old mid new one wrong.1)
 
-  -- a step that keeps the front and the log goes on
+  -- a step that keeps the front and the log is a run
   on-log : (old new : JournalValue D) → new.journal.front ≡ old.journal.front → KeepsLog old.journal.engine new.journal.engine →
       (state new.device).shape ≡ (state old.device).shape → ComesBy old new → GoesOn state old new
   on-log old new front log shape path = record {
@@ -192,7 +192,7 @@ module _ {D : Type 0} (state : D → DeviceState) where
     path = path;
   }
 
-  -- a commit step goes on
+  -- a commit step is one
   pub commit-went : (turn : Turn) (old new : JournalValue D) → old.journal.engine.aborted ≡ false → old.journal.engine.stage ≢ Idle →
       TurnDid state turn old new → (state new.device).shape ≡ (state old.device).shape → (state new.device).faults ≡ (state old.device).faults →
       Went state old new
@@ -233,7 +233,7 @@ module _ {D : Type 0} (state : D → DeviceState) where
         faults = faults;
       }
 
-  -- a failed step, of which the front is then told, is a way
+  -- a failed step, of which the front is then notified, is a path
   by-fault : (old new : JournalValue D) (fault : Event) → ((directs : List (ℕ × List ℕ)) → with_directs fault directs ≡ directs) →
       FailsAndTells state fault old new → ComesBy old new
   by-fault old new fault indirect fails =
@@ -266,7 +266,7 @@ module _ {D : Type 0} (state : D → DeviceState) where
         },
       )
 
-  -- a checkpoint step goes on, and leaves commit and front as they were
+  -- a checkpoint step is a run, and leaves commit and front as they were
   pub check-went : (turn : CheckTurn) (old new : JournalValue D) → old.journal.engine.aborted ≡ false → CheckTurnDid state turn old new →
       (state new.device).shape ≡ (state old.device).shape → (state new.device).faults ≡ (state old.device).faults →
       Went state old new × (new.journal.engine.stage ≡ old.journal.engine.stage) × (new.journal.engine.committed ≡ old.journal.engine.committed)
@@ -548,7 +548,7 @@ module _ {D : Type 0} (state : D → DeviceState) where
   last-refused old new e running joined (LeftUnsealed mid went all is) =
       NoMemory running (unsealed old mid new went joined all is) (ap (λ (v : JournalValue D). (state v.device).faults) is ∙ went.faults)
 
-  -- a way goes on by commit or checkpoint steps, even if the last of them failed
+  -- a path goes on by commit or checkpoint steps, even if the last of them failed
   pub way-on : {T : Type 0} (r : Result T JournalError) (old mid new : JournalValue D) → ComesBy old mid →
       OnOk r (Went state mid new) → IfErr r (λ e. (e ≡ Device) × WentWrong state mid new) → ComesBy old new
   way-on (Ok x) old mid new way went wrong = ways old mid new way went.on.path

@@ -10,7 +10,7 @@ use Rattle.journal_steps.specs.Values.{JournalValue}
 use Rattle.group_commit.specs.Close.{HasSealed, Went, WentWrong}
 use Rattle.group_commit.specs.Rounds.{MakesNoRound, MakesRoomAlone}
 
--- why the rounds do not finish: the device failed before, and nothing was done; or it failed in one of them
+-- why the rounds do not finish
 pub data ReleaseRefused {D : Type 0} (state : D → DeviceState) (old new : JournalValue D) : JournalError → Type 0 where
   ReleaseAborted : old.journal.engine.aborted ≡ true → new ≡ old → ReleaseRefused state old new Aborted
   ReleaseFailed : old.journal.engine.aborted ≡ false → WentWrong state old new → ReleaseRefused state old new Device
@@ -19,15 +19,14 @@ pub data ReleaseRefused {D : Type 0} (state : D → DeviceState) (old new : Jour
 abbrev pub IsReadyToSeal : Front → Type 0
 IsReadyToSeal f = (f.locked ≡ true) × (f.open_handles ≡ [])
 
--- everything that can be committed is: the running transaction too if it was ready, after rounds if the ring had no room for it; else
--- what was sealed before, with no round
+-- everything that can be committed is: with the running transaction if it was ready, after rounds for lack of room; else without it,
+-- and with no round
 pub data CommitsAll {D : Type 0} (state : D → DeviceState) (old new : JournalValue D) : Type 0 where
   WithRunning : IsReadyToSeal old.journal.front → HasSealed state old new → MakesRoomAlone state old new → CommitsAll state old new
   WithoutRunning : (IsReadyToSeal old.journal.front → ⊥) → Went state old new → MakesNoRound old.journal.engine new.journal.engine → CommitsAll state old new
 
--- Why not everything is committed: the device failed before, and nothing was done; it failed in a step before the seal, or after it; or
--- the running transaction was ready, and memory for its seal ran out. Then nothing was done, or every sealed transaction is committed
--- and the running one is as it was. (The code reserves room first, so the last does not come.)
+-- Why not everything is committed. A ready transaction that memory refused stays as it was. (The code reserves room first, so
+-- `StaysReady` does not come.)
 pub data AllTurnsRefused {D : Type 0} (state : D → DeviceState) (old new : JournalValue D) : JournalError → Type 0 where
   TurnsAborted : old.journal.engine.aborted ≡ true → new ≡ old → AllTurnsRefused state old new Aborted
   FailedUnsealed : old.journal.engine.aborted ≡ false → WentWrong state old new → AllTurnsRefused state old new Device
@@ -45,8 +44,7 @@ pub record CommitsThrough {D : Type 0} (state : D → DeviceState) (tid : ℕ) (
   pub commits : CommitsAll state asked new
   pub idle : new.journal.engine.stage ≡ Idle
 
--- why a transaction is not committed after a request: the request was refused; the turns were; or all were taken, and the transaction
--- is not ready to be sealed
+-- why a transaction is not committed after a request
 pub data CommitRefused {D : Type 0} (state : D → DeviceState) (tid : ℕ) (old new : JournalValue D) (e : JournalError) : Type 0 where
   Unasked : e ≡ Aborted → old.journal.front.aborted ≡ true → new ≡ old → CommitRefused state tid old new e
   Unfinished : (asked : JournalValue D) → Requests state tid old asked → AllTurnsRefused state asked new e → CommitRefused state tid old new e

@@ -66,7 +66,8 @@ pub data CloseDid (old : Journal) (disk : Disk) (sealed : History) (committed : 
   ClosesLog : EndsWith old disk sealed committed after Closed → CloseDid old disk sealed committed after
   StaysClean : sealed ≡ [] → EndsWith old disk sealed committed after Shut → CloseDid old disk sealed committed after
 
--- only commit and checkpoint steps were made: the front changed in `finished`, `mark` and `aborted` alone, and no fewer are committed
+-- Moves lead on: the front changed in `finished`, `mark` and `aborted` alone, the log keeps its layout and ring, and no fewer are
+-- committed. Commit and checkpoint steps do this.
 pub record GoesOn {D : Type 0} (state : D → DeviceState) (old new : JournalValue D) : Type 0 where
   pub front : new.journal.front ≡ told_as old.journal.front new.journal.front
   pub measures : new.journal.engine.shape ≡ old.journal.engine.shape
@@ -76,20 +77,20 @@ pub record GoesOn {D : Type 0} (state : D → DeviceState) (old new : JournalVal
   pub shape : (state new.device).shape ≡ (state old.device).shape
   pub path : ComesTo old.journal (state old.device).disk new.journal (state new.device).disk Running
 
--- such steps, without a device failure
+-- such moves, without a device failure
 pub record Went {D : Type 0} (state : D → DeviceState) (old new : JournalValue D) : Type 0 where
   pub on : GoesOn state old new
   pub running : new.journal.engine.aborted ≡ false
   pub faults : (state new.device).faults ≡ (state old.device).faults
 
--- such steps, the last of which the device failed, so that the journal is aborted
+-- such moves, with one device failure, so that the journal is aborted
 pub record WentWrong {D : Type 0} (state : D → DeviceState) (old new : JournalValue D) : Type 0 where
   pub on : GoesOn state old new
   pub aborted : new.journal.engine.aborted ≡ true
   pub faults : (state new.device).faults ≡ one_more_fault (state old.device).faults
 
--- everything is sealed that a close seals, and no handle has joined the running transaction; otherwise the front changed in `finished`,
--- `mark` and `aborted` alone, and the device has not failed
+-- moves lead on, and everything is sealed that a close seals; otherwise the front changed in `finished`, `mark` and `aborted` alone,
+-- and the device has not failed
 pub record HasSealed {D : Type 0} (state : D → DeviceState) (old new : JournalValue D) : Type 0 where
   pub front : new.journal.front ≡ told_as (closing_front old.journal.front) new.journal.front
   pub measures : new.journal.engine.shape ≡ old.journal.engine.shape
@@ -114,10 +115,8 @@ pub record StaysUnsealed (old : Journal) (sealed : History) (committed : ℕ) : 
   pub same : sealed ≡ old.front.sealed
   pub all : committed ≡ length sealed
 
--- Why a close is refused, and what it leaves sealed and committed: the device failed before, and nothing was done; it failed
--- in a step of the close; or memory ran out for the seal of the running transaction, before anything was done, or behind the commit
--- that was under way. The code makes all room for the seal first, so that the last does not come; an engine's value says
--- nothing of the room that it has, so that no clause can tell.
+-- Why a close is refused, and what it leaves sealed and committed. The code reserves room first, so `NoMemory` does not come; no clause
+-- can say so, as an engine's value does not show its room.
 pub data CloseRefused {D : Type 0} (state : D → DeviceState) (old : JournalValue D) (device : D) (sealed : History) (committed : ℕ) : JournalError → Type 0 where
   CloseAborted : old.journal.engine.aborted ≡ true → device ≡ old.device → sealed ≡ old.journal.front.sealed → committed ≡ old.journal.engine.committed →
       CloseRefused state old device sealed committed Aborted
@@ -132,9 +131,8 @@ pub data CloseRefused {D : Type 0} (state : D → DeviceState) (old : JournalVal
 abbrev pub locked_journal : {D : Type 0} → JournalValue D → JournalValue D
 locked_journal old = record old { journal = record old.journal { front = locking old.journal.front } }
 
--- Why the running transaction, which a handle has joined, is not sealed and committed: the device failed in a step before the seal, or
--- after it; or memory for the seal ran out, before anything was done, or after other steps. The code reserves room first, so the last
--- does not come.
+-- Why the running transaction, which a handle has joined, is not sealed and committed. (The code reserves room first, so `LeftUnsealed`
+-- does not come.)
 pub data LastRefused {D : Type 0} (state : D → DeviceState) (old new : JournalValue D) : JournalError → Type 0 where
   FailedBefore : WentWrong state old new → LastRefused state old new Device
   FailedBehind : (mid : JournalValue D) → HasSealed state old mid → WentWrong state mid new → LastRefused state old new Device
@@ -142,7 +140,7 @@ pub data LastRefused {D : Type 0} (state : D → DeviceState) (old new : Journal
   LeftUnsealed : (mid : JournalValue D) → Went state old mid → mid.journal.engine.committed ≡ length mid.journal.front.sealed → new ≡ locked_journal mid →
       LastRefused state old new Memory
 
--- why the running transaction is not sealed: the ring has too few free blocks for it, or memory ran out
+-- why the running transaction is not sealed
 pub data SealRefused (j : Journal) : JournalError → Type 0 where
   NoRoomForIt : (HasRoomFor j → ⊥) → SealRefused j NeedSpace
   NoMemoryForIt : HasRoomFor j → SealRefused j Memory

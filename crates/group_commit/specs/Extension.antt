@@ -18,7 +18,7 @@ pub record Extends {D : Type 0} (state : D → DeviceState) (h n : ℕ) (old new
   pub extends : Does state granted (FrontStep (ExtendHandle h n)) new
   pub device : granted.device ≡ old.device
 
--- why the extension is refused: the credits are not granted; or they were granted, the handle can't have them, and they were given back
+-- why the extension is refused; credits that were granted are given back
 pub data ExtensionRefused (f : Front) (h : HandleValue) (n : ℕ) (e : JournalError) : Type 0 where
   NotGranted : ReserveRefused f n e → ExtensionRefused f h n e
   NotExtended : n ≤ credits_left f → ExtendRefused (reserving f n) h n e → ExtensionRefused f h n e
@@ -30,7 +30,7 @@ pub record Starts {D : Type 0} (state : D → DeviceState) (n : ℕ) (old new : 
   pub joins : Does state granted (FrontStep (Join n)) new
   pub device : granted.device ≡ old.device
 
--- why the start is refused: the credits are not granted; or they were granted, no handle may join with them, and they were given back
+-- why the start is refused; credits that were granted are given back
 pub data StartRefused (f : Front) (n : ℕ) (e : JournalError) : Type 0 where
   Ungranted : ReserveRefused f n e → StartRefused f n e
   NotJoined : n ≤ credits_left f → JoinRefused (reserving f n) n e → StartRefused f n e

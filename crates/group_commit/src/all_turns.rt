@@ -20,8 +20,8 @@ impl<D: Device, R: Record> Journal<D, R> {
     ///
     /// # Errors
     ///
-    /// The ticket comes back. Those of `commit_all`; `NotRunning` if another handle of the transaction is still open: call again once
-    /// it has stopped. A ticket of another journal may get this answer too.
+    /// The ticket comes back. Those of `commit_all`; `NotRunning` if another handle of the transaction is still open: it takes no
+    /// further ones, so call again once that has stopped. A ticket of another journal may get this answer too.
     /// Source: fs/jbd2/journal.c by behaviour (`jbd2_complete_transaction`).
     pub fn commit(&mut self, ticket: Ticket) -> Result<Receipt, (Ticket, JournalError)>
         ensures ok { IfOk result (λ receipt. (receipt ≡ ticket) × (ticket.tid ≤ self.new.journal.front.mark)) }

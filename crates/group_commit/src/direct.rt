@@ -1,4 +1,4 @@
-//! Direct writes: bytes go straight home, past the log, to a block that no transaction holds; a flush of home makes them durable.
+//! Direct writes: bytes go straight home, past the log, to a block that the transactions leave to home; a flush of home makes them durable.
 //! Source: this project's own, by what journal.rst says of revokes (a block that is no longer journalled may be written in place).
 ghost use Rattle.std.specs.Prelude.{◌≡◌, length, IfErr, OnOk};
 ghost use Rattle.journal_world.specs.Journal.Event.{DirectSync, DirectWrite};

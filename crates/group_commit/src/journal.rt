@@ -42,8 +42,8 @@ use std::marker::Model;
 
 /// A journal on an opened log.
 ///
-/// In the errors of its calls, `Aborted` means that the device failed in an earlier call, and nothing changes. `Device` means that it
-/// failed in this one: the journal is then aborted, until the device is opened again.
+/// In the errors of its calls, `Aborted` means that the device failed in an earlier call, and nothing changes (`restart` stops its
+/// handle). `Device` means that it failed in this one: the journal is then aborted, until the device is opened again.
 #[derive(Drop)]
 pub struct Journal<D: Device, R: Record = Unrecorded> {
     pub(crate) front: Front<R>,
@@ -134,14 +134,14 @@ impl<D: Device, R: Record> Journal<D, R> {
         self.front.capacity()
     }
 
-    /// The credits held: in no handle yet, unused in open handles, and one for each block that the running transaction has touched.
+    /// How many credits are held: in no handle yet, unused in open handles, and one for each block that the running transaction touched.
     pub fn held(&self) -> u64
         ensures { result ≡ held self.now.journal.front }
     {
         self.front.held()
     }
 
-    /// The entries of the running transaction: one copy or revoke for each block touched.
+    /// How many entries the running transaction has: one copy or revoke for each block touched.
     pub fn entries(&self) -> usize
         ensures { result ≡ length (entries self.now.journal.front.running.steps) }
     {

@@ -29,12 +29,12 @@ pub record IsOpenHandle (f : Front) (h : HandleValue) : Type 0 where
 abbrev pub MayTouch : Front → ℕ → Type 0
 MayTouch f b = IsAllowedBlock f.layout f.home_blocks b
 
--- why credits are not granted: one transaction can never have so many, or the credits held leave fewer
+-- why credits are not granted
 pub data ReserveRefused (f : Front) (n : ℕ) : JournalError → Type 0 where
   BeyondCapacity : f.capacity < n → ReserveRefused f n TooMany
   BeyondFree : n ≤ f.capacity → f.capacity < held f + n → ReserveRefused f n Full
 
--- why a handle may not join with n credits; memory runs out only if it may join
+-- why a handle may not join with n credits; memory runs out only if it may
 pub data JoinRefused (f : Front) (n : ℕ) : JournalError → Type 0 where
   IsAborted : f.aborted ≡ true → JoinRefused f n Aborted
   IsLocked : f.aborted ≡ false → f.locked ≡ true → JoinRefused f n NotRunning
@@ -50,7 +50,7 @@ pub record MayExtend (f : Front) (h : HandleValue) (n : ℕ) : Type 0 where
   pub granted : n ≤ f.reserved
   pub open_handle : IsOpenHandle f h
 
--- why it may not: the device has failed, its transaction is locked, the front has not granted these credits, or the handle is not open
+-- why an open handle may not get n further credits
 pub data ExtendRefused (f : Front) (h : HandleValue) (n : ℕ) : JournalError → Type 0 where
   ExtendAborted : f.aborted ≡ true → ExtendRefused f h n Aborted
   ExtendLocked : f.aborted ≡ false → f.locked ≡ true → ExtendRefused f h n NotRunning
@@ -63,13 +63,13 @@ pub record MayStep (f : Front) (h : HandleValue) (b : ℕ) : Type 0 where
   pub allowed : MayTouch f b
   pub open_handle : IsOpenHandle f h
 
--- why it may not; a handle that is not open has no credit
+-- why a handle may make no step on the block
 pub data IsKeptOut (f : Front) (h : HandleValue) (b : ℕ) : JournalError → Type 0 where
   WhileAborted : f.aborted ≡ true → IsKeptOut f h b Aborted
   OutOfHome : f.aborted ≡ false → (MayTouch f b → ⊥) → IsKeptOut f h b BadBlock
   NotOpen : f.aborted ≡ false → MayTouch f b → (IsOpenHandle f h → ⊥) → IsKeptOut f h b NoCredit
 
--- why a handle may not write or revoke a block: it may make no step there, it has no credit for a first touch, or memory ran out
+-- why a handle may not write or revoke the block
 pub data TouchRefused (f : Front) (h : HandleValue) (b : ℕ) (e : JournalError) : Type 0 where
   KeptOut : IsKeptOut f h b e → TouchRefused f h b e
   WithoutCredit : MayStep f h b → IsFirstTouch f b → h.left ≡ 0 → e ≡ NoCredit → TouchRefused f h b e

@@ -74,7 +74,7 @@ pub record Touches (old : OpenTransaction) (left : ℕ) (s : Step) (touch : Touc
   pub may : MayTouch old left s.block touch
   pub noted : new ≡ noting old s
 
--- why such a touch of block b is refused: no credit is left for it, or memory ran out
+-- why such a touch of block b is refused
 pub data TouchRefused (old : OpenTransaction) (left b : ℕ) (e : JournalError) : Type 0 where
   WithoutCredit : LacksCredit old left b e → TouchRefused old left b e
   WithoutMemory : cost (touch_of (effect b old.transaction.steps)) ≤ left → e ≡ Memory → TouchRefused old left b e

@@ -1,5 +1,4 @@
-//! The front: the running transaction, its open handles, the credits, and the sealed transactions. It also keeps the layouts of log and
-//! device and whether the device has failed, and calls no other part.
+//! The front: the running transaction, its open handles, the credits and the sealed transactions. It calls no other part.
 ghost use Rattle.std.specs.Prelude.{◌≡◌, ◌+◌, ◌-◌, ◌<◌, ◌≤◌, ◌↔◌, nat_eq, true, false, [], IsTrue, length, None, OnOk, IfOk, IfErr, Some};
 ghost use Rattle.std.specs.Map.{lookup};
 ghost use Rattle.std.specs.Option.{option_copied};
@@ -23,30 +22,28 @@ use journal_model::{
 use std::alloc::Global;
 use std::marker::Model;
 
-/// The front of a journal. It alone makes credits and handles, and it takes only those that it holds. Its owner can seal its
-/// transaction and acknowledge commits.
+/// The front of a journal. It alone makes credits and handles, and takes only its own. Its owner can seal its transaction and
+/// acknowledge commits.
 #[derive(Drop)]
 pub struct Front<R: Record> {
     alloc: Global,
     layout: LogLayout,
     home_blocks: u64,
-    /// The most credits that can be held.
     capacity: u64,
-    /// The credits held: in no handle yet, unused in open handles, and one for each entry.
+    /// Credits held: in no handle yet, unused in open handles, and one for each entry.
     held: u64,
-    /// Of these, the credits in no handle yet.
+    /// Credits in no handle yet.
     reserved: u64,
-    /// The last transaction that the front knows to be committed.
+    /// The last transaction known to be committed.
     finished: u32,
-    /// The commit mark: the last transaction acknowledged as committed.
+    /// The last transaction acknowledged as committed.
     mark: u32,
-    /// The transactions sealed since the opening.
     sealed: R,
-    /// The transaction that handles join. It also keeps the last sealed one's entries until that is finished.
+    /// It also keeps the last sealed transaction's entries until that is finished.
     running: Transaction<R>,
-    /// Its open handles in the order of their joins, each with its unused credits.
+    /// In the order of their joins, each with its unused credits.
     open_handles: IndexMap<HandleNo, u64>,
-    /// How many handle numbers have been given out.
+    /// How many handle numbers were given out.
     given: u64,
     aborted: bool,
 }
@@ -124,7 +121,7 @@ impl<R: Record> Front<R> {
         Ok(Credits::new(n))
     }
 
-    /// Takes back `n` credits that are in no handle. If there are fewer, they were not granted here, and nothing changes.
+    /// Takes back `n` credits that are in no handle. If there are fewer, nothing changes.
     pub fn give_back(&mut self, n: u64)
         ensures granted { n ≤ self.old.reserved → FrontHappens self.old (GiveBack n) self.new }
         ensures other { self.old.reserved < n → self.new ≡ self.old }
@@ -135,7 +132,7 @@ impl<R: Record> Front<R> {
         }
     }
 
-    /// Makes one more handle, with `n` of the credits that are in no handle.
+    /// Makes a handle with `n` of the credits in no handle.
     pub fn join(&mut self, n: u64) -> Result<Handle, JournalError>
         ensures ok { IfOk result (λ handle. FrontHappens self.old (Join n) self.new
             × (handle ≡ record { number = next_handle self.old; tid = self.old.running.tid; left = n })) }
@@ -168,7 +165,7 @@ impl<R: Record> Front<R> {
         Ok(Handle::new(number, tid, n))
     }
 
-    /// Whether the handle is open, in the running transaction, with the credits that it states.
+    /// Whether the handle is open, with the credits that it states.
     pub fn is_open(&self, handle: &Handle) -> bool
         ensures { IsTrue result ↔ IsOpenHandle self.now handle.now }
     {
@@ -192,8 +189,8 @@ impl<R: Record> Front<R> {
         self.aborted
     }
 
-    /// Sets whether the device has failed. This call, `abort`, `seal` and `finish` are for the owner of the front's engine: a front
-    /// that learns otherwise than its engine no longer agrees with it.
+    /// Sets whether the device has failed. This call, `abort`, `seal` and `finish` are for the owner of the front's engine, with which
+    /// the front must agree.
     pub fn learn(&mut self, aborted: bool)
         ensures { self.new ≡ record self.old { aborted = aborted } }
     {
@@ -207,7 +204,7 @@ impl<R: Record> Front<R> {
         self.aborted = true;
     }
 
-    /// The last entry of a block in the unfinished transactions: the running one's, else the sealed one's.
+    /// The block's last entry in the unfinished transactions: the running one's, else the sealed one's.
     pub fn newest(&self, block: BlockNo) -> Option<&Entry>
         ensures { option_copied result ≡ last_effect block (unfinished self.now) }
     {
@@ -221,12 +218,11 @@ impl<R: Record> Front<R> {
         self.newest(block).is_none()
     }
 
-    /// Whether a handle may make a step on the block. The credit for a first touch is not checked; a read takes none.
+    /// Whether a handle may make a step on the block, the credit for a first touch apart.
     ///
     /// # Errors
     ///
-    /// The first that applies: `Aborted` after a device failure, `BadBlock` if the block may not be touched, `NoCredit` if the handle
-    /// is not open.
+    /// The first of: `Aborted`, `BadBlock` (the block may not be touched), `NoCredit` (the handle is not open).
     pub fn admit(&self, handle: &Handle, block: BlockNo) -> Result<(), JournalError>
         ensures ok { OnOk result (MayStep self.now handle.now block) }
         ensures err { IfErr result (λ e. IsKeptOut self.now handle.now block e) }
@@ -243,7 +239,7 @@ impl<R: Record> Front<R> {
         Ok(())
     }
 
-    /// Writes one block in the handle's transaction; a first touch takes one credit. On an error nothing changes.
+    /// Writes one block in the handle's transaction, or changes nothing. A first touch takes one credit.
     pub fn write(
         &mut self,
         handle: &mut Handle,
@@ -267,7 +263,7 @@ impl<R: Record> Front<R> {
         }
     }
 
-    /// Revokes a block in the handle's transaction; a first touch takes one credit. On an error nothing changes.
+    /// Revokes a block in the handle's transaction, or changes nothing. A first touch takes one credit.
     pub fn revoke(&mut self, handle: &mut Handle, block: BlockNo) -> Result<(), JournalError>
         ensures ok { OnOk result (FrontHappens self.old (RevokeBlock handle.old.number block) self.new) }
         ensures open { OnOk result (IsOpenHandle self.old handle.old × IsOpenHandle self.new handle.new) }
@@ -285,7 +281,7 @@ impl<R: Record> Front<R> {
         }
     }
 
-    /// Makes room for the step of a read, and a buffer of one block for its bytes.
+    /// Makes room for a read's step, and a buffer of one block.
     ///
     /// # Errors
     ///
@@ -299,7 +295,7 @@ impl<R: Record> Front<R> {
         Ok(vec![in self.alloc; 0; self.layout.block_size]?)
     }
 
-    /// Records that an open handle read these bytes of a block, as one more step of its transaction.
+    /// Records that an open handle read these bytes of a block.
     ///
     /// # Errors
     ///
@@ -340,7 +336,7 @@ impl<R: Record> Front<R> {
         }
     }
 
-    /// Gives an open handle `n` further credits, of those in no handle.
+    /// Gives an open handle `n` of the credits in no handle.
     pub fn extend(&mut self, handle: &mut Handle, n: u64) -> Result<(), JournalError>
         ensures ok { OnOk result (FrontHappens self.old (ExtendHandle handle.old.number n) self.new) }
         ensures open { OnOk result (IsOpenHandle self.new handle.new) }
@@ -375,7 +371,7 @@ impl<R: Record> Front<R> {
         self.running.lock();
     }
 
-    /// Whether the running transaction takes no further handles.
+    /// Whether the running transaction is locked.
     pub fn is_locked(&self) -> bool
         ensures { result ≡ self.now.locked }
     {
@@ -434,7 +430,7 @@ impl<R: Record> Front<R> {
         self.running.batch()
     }
 
-    /// Seals the running transaction and begins the next. Hand the entries (`batch`) to the engine first.
+    /// Seals the running transaction and begins the next. Hand `batch` to the engine first.
     pub fn seal(&mut self)
         requires locked { self.old.locked ≡ true }
         requires number { self.old.running.tid ≤ greatest_number }
@@ -446,7 +442,7 @@ impl<R: Record> Front<R> {
         self.held = self.held.saturating_sub(entries);
     }
 
-    /// Records that the engine has committed one more transaction. The mark does not rise yet.
+    /// Records one more commit by the engine. The mark does not rise yet.
     pub fn finish(&mut self)
         requires { self.old.finished + 1 < self.old.running.tid }
         ensures { self.new ≡ finishing self.old }

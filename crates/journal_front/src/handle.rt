@@ -1,5 +1,5 @@
-//! Credits and handles, which callers hold. Only a front makes them (`Front::{reserve, join}`) and ends them (`Front::{take_back,
-//! join_with, give, stop_handle}`). Neither can be dropped, so none is forgotten.
+//! Credits and handles. Only a front makes them (`Front::{reserve, join}`) and ends them (`Front::{take_back, join_with, give,
+//! stop_handle}`). Neither can be dropped, so none is forgotten.
 ghost use Rattle.std.specs.Prelude.{◌≡◌, ◌⊎◌, ◌+◌, ◌<◌, ◌≤◌, IfErr, IfOk, OnOk};
 ghost use Rattle.journal_world.specs.Front.{FrontHappens, next_handle};
 ghost use Rattle.journal_world.specs.Front.FrontEvent.{ExtendHandle, GiveBack, Join, StopHandle};
@@ -12,7 +12,7 @@ use journal_model::{HandleNo, JournalError, Tid};
 use std::marker::Model;
 
 /// Granted credits: each lets a handle touch one more block. They can't be dropped or copied: give them back to the journal that
-/// granted them, or use them in a handle. While they are held, others can have fewer.
+/// granted them, or use them in a handle.
 /// Source: journalling.rst (the credits of `journal_start`).
 #[derive(Debug)]
 pub struct Credits {
@@ -44,8 +44,8 @@ impl Credits {
     }
 }
 
-/// A handle: it writes and revokes blocks in one transaction, and after a crash all of its changes are there or none. It can't be
-/// dropped or copied: stop it, after a device failure too. Its transaction can't be committed before.
+/// A handle: it writes and revokes blocks in one transaction; after a crash all of its changes are there, or none. It can't be dropped
+/// or copied: stop it, even after a device failure. Until then its transaction can't be committed.
 /// Source: journalling.rst (`journal_start` and `journal_stop`).
 #[derive(Debug)]
 pub struct Handle {
@@ -111,7 +111,7 @@ impl Handle {
 }
 
 impl<R: Record> Front<R> {
-    /// Takes back credits that are in no handle. If there are fewer, they were not granted here, and nothing changes.
+    /// Takes back credits that are in no handle. If the front has fewer, nothing changes.
     pub fn take_back(&mut self, credits: Credits)
         ensures granted { credits ≤ self.old.reserved → FrontHappens self.old (GiveBack credits) self.new }
         ensures other { self.old.reserved < credits → self.new ≡ self.old }
@@ -120,7 +120,7 @@ impl<R: Record> Front<R> {
         self.give_back(count);
     }
 
-    /// Makes one more handle, with these credits.
+    /// Makes a handle with these credits.
     ///
     /// # Errors
     ///
@@ -164,7 +164,7 @@ impl<R: Record> Front<R> {
         }
     }
 
-    /// Ends a handle and takes back its unused credits. A handle that is not open changes nothing.
+    /// Ends a handle and takes back its unused credits. One that is not open changes nothing.
     pub fn stop_handle(&mut self, handle: Handle)
         ensures stops { IsOpenHandle self.old handle → FrontHappens self.old (StopHandle handle.number) self.new }
         ensures other { (IsOpenHandle self.old handle → ⊥) → self.new ≡ self.old }

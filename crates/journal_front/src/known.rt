@@ -1,10 +1,10 @@
-//! A transaction of which only contracts know the handles and steps.
+//! A transaction known to contracts alone, but for its number.
 ghost use Rattle.std.specs.Prelude.{◌≡◌, ◌++◌, ◌∷◌, []};
 
 use journal_model::{HandleNo, History, Step, Tid};
 use std::marker::Model;
 
-/// A transaction whose number is data, and whose handles and steps only contracts know. It takes no memory.
+/// A transaction whose handles and steps only contracts know. It takes no memory.
 #[derive(Drop)]
 pub struct KnownTransaction {
     tid: Tid,
@@ -21,7 +21,6 @@ impl Model for KnownTransaction {
 }
 
 impl KnownTransaction {
-    /// A transaction of this number, without handles and steps.
     pub(crate) fn new(tid: Tid) -> Self
         ensures { result ≡ record { tid = tid; handles = []; steps = [] } }
     {
@@ -39,7 +38,6 @@ impl KnownTransaction {
         self.tid
     }
 
-    /// Adds a handle.
     pub(crate) fn join(&mut self, handle: HandleNo)
         ensures { self.new ≡ record self.old { handles = self.old.handles ++ handle ∷ [] } }
     {

@@ -8,7 +8,7 @@ ghost use Rattle.journal_model.specs.declared.transaction.Step.{Step};
 ghost use Rattle.journal_model.specs.Transaction.{effect, entries, entry_of};
 ghost use Rattle.journal_front.specs.Transaction.{cost, touch_of};
 
-/// Each credit that a touch costs adds one entry. So a transaction has as many entries as its handles paid credits.
+/// Each credit that a touch costs adds one entry: a transaction has as many entries as its handles paid credits.
 pub fn a_touch_costs_a_credit_for_each_entry_that_it_adds()
     ensures { (ss : List Step) (s : Step) (e : Entry) → entry_of s.op ≡ Some e →
         length (entries (ss ++ s ∷ [])) ≡ length (entries ss) + cost (touch_of (effect s.block ss)) }

@@ -1,12 +1,10 @@
-//! The front of a journal: the transaction that handles join, and the record of sealed ones. It knows no device and no engine;
-//! `group_commit` keeps it in agreement with an engine.
+//! The front of a journal: the transaction that handles join, and the record of sealed ones. It knows no device and no engine.
 //!
-//! A front alone makes, changes and ends credits and handles. Its owner alone can do so, or seal its transaction, so keep it out of
-//! callers' reach, as `group_commit::Journal` does. The owner chooses whether sealed transactions are kept as data or known to
-//! contracts alone (`record`).
+//! A front alone makes, changes and ends credits and handles. Its owner can do so, and seal its transaction: keep it out of callers'
+//! reach, as `group_commit::Journal` does. The owner chooses how sealed transactions are recorded (`record`).
 //!
-//! A transaction (`transaction`) takes handles until it is locked; their steps may go on until it is sealed. It has one entry for each
-//! block touched, left by the last write or revoke, in the order of the first touches.
+//! A transaction (`transaction`) takes handles until it is locked, and their steps until it is sealed. It has one entry for each block
+//! touched, left by the last write or revoke, in the order of the first touches.
 #![tactic(auto)]
 
 mod front;

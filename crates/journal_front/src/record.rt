@@ -7,9 +7,9 @@ use crate::known::KnownTransaction;
 use journal_model::{History, JournalError, Sealed};
 use std::alloc::Global;
 
-/// How a journal keeps its transactions since the opening: as data, or for contracts alone.
+/// A record of a journal's transactions since the opening: as data, or for contracts alone.
 pub trait Record: Drop {
-    /// Whether handles and steps are kept as data, of sealed and running transactions.
+    /// Whether handles and steps are data, of sealed and running transactions.
     const KEEPS: bool;
 
     ghost KEEPS: { Bool };
@@ -35,14 +35,14 @@ pub trait Record: Drop {
         ensures kept { has_room self.old → has_room self.new }
         ensures err { IfErr result (λ e. e ≡ Memory) };
 
-    /// Adds a transaction: `known` is its value for contracts, and `kept` the same as data, if the record keeps data.
+    /// Adds a transaction: `known` is its value for contracts, `kept` the same as data, if the record keeps data.
     fn note(&mut self, known: &KnownTransaction, kept: Sealed)
         requires room { has_room self.old }
         requires data { KEEPS ≡ true → kept ≡ known.now }
         ensures { transactions self.new ≡ transactions self.old ++ known.now ∷ [] };
 }
 
-/// Keeps the transactions as data, with the bytes of each step: a journal's memory grows with each.
+/// Keeps transactions as data, with each step's bytes: memory grows with each.
 impl Record for Vec<Sealed> {
     ghost use Rattle.std.specs.Prelude.{◌<◌, length, vec_capacity};
 

@@ -1,6 +1,5 @@
-//! A transaction until its seal: its number, its handles, their steps, and the entries that these leave. It also keeps its
-//! predecessor's entries while that is being committed. Handles and steps are data if its record keeps data; else only contracts know
-//! them.
+//! A transaction until its seal: its number, its handles, their steps, and the entries that these leave. While its predecessor is being
+//! committed, it keeps that one's entries too.
 ghost use Rattle.std.specs.Prelude.{◌≡◌, ◌+◌, ◌-◌, ◌<◌, ◌^◌, ◌++◌, ◌∷◌, ◌↔◌, [], true, false, IsTrue, length, nat_eq, vec_capacity, IfErr, IfOk, None, OnOk, Some};
 ghost use Rattle.std.specs.Map.{lookup};
 ghost use Rattle.std.specs.Option.{option_copied};
@@ -21,9 +20,9 @@ use std::marker::{Model, PhantomData};
 /// Source: journalling.rst (the credits of `journal_start`).
 #[derive(Clone, Copy, Debug, PartialEq, Eq)]
 pub enum Touch {
-    /// The first touch of the block: it adds an entry, and costs its handle one credit.
+    /// It adds an entry, and costs its handle one credit.
     First,
-    /// A later touch, by any handle: it changes the block's entry in place, and costs nothing.
+    /// It changes the block's entry in place, and costs nothing.
     Later,
 }
 
@@ -39,24 +38,21 @@ impl Touch {
     }
 }
 
-/// A transaction that is not sealed; it runs until it is locked.
+/// A transaction that is not sealed.
 ///
-/// A refused call changes nothing. After `reserve`, one `note` takes no memory.
-///
-/// If `R` keeps no data, it holds one copy for each block that it touches and none of the steps: a later write drops the earlier bytes.
+/// A refused call changes nothing. If `R` keeps no data, it holds one copy for each block that it touches and none of the steps: a
+/// later write drops the earlier bytes.
 #[derive(Drop)]
 pub struct Transaction<R: Record> {
     alloc: Global,
-    /// Its number, and what contracts know of its handles and steps.
     known: KnownTransaction,
-    /// Its handles in the order of their joins, if the record keeps data; else none.
+    /// In the order of their joins; none if the record keeps no data.
     handles: Items<HandleNo>,
-    /// Its steps in order, if the record keeps data; else none.
+    /// In order; none if the record keeps no data.
     steps: Vec<Step>,
     joined: bool,
-    /// The entries of its steps in the order of first touches, and its predecessor's entries while that is being committed.
+    /// Its entries in the order of first touches, and its predecessor's while that is being committed.
     versions: VersionCache,
-    /// It takes no further handles.
     locked: bool,
     /// There is room for one more step.
     reserved: bool,
@@ -76,10 +72,6 @@ impl<R: Record> Model for Transaction<R> {
 }
 
 /// Makes room for one more step, if the record keeps data.
-///
-/// # Errors
-///
-/// `Memory`: the steps are as they were.
 fn room_for_step<R: Record>(steps: &mut Vec<Step>) -> Result<(), JournalError>
     ensures room { OnOk result (R.KEEPS ≡ true → length steps.new.items < vec_capacity steps.new) }
     ensures same { steps.new.items ≡ steps.old.items }
@@ -92,7 +84,7 @@ fn room_for_step<R: Record>(steps: &mut Vec<Step>) -> Result<(), JournalError>
     Ok(())
 }
 
-/// Keeps a step, for which there is room, if the record keeps data; else drops it.
+/// Keeps a step if the record keeps data; else drops it.
 fn keep_step<R: Record>(steps: &mut Vec<Step>, step: Step)
     requires { R.KEEPS ≡ true → length steps.old.items < vec_capacity steps.old }
     ensures kept { R.KEEPS ≡ true → steps.new.items ≡ steps.old.items ++ step ∷ [] }
@@ -104,7 +96,7 @@ fn keep_step<R: Record>(steps: &mut Vec<Step>, step: Step)
 }
 
 impl<R: Record> Transaction<R> {
-    /// A running transaction of this number, without handles or a predecessor being committed. It takes no memory.
+    /// A running transaction of this number, without handles. It takes no memory.
     pub fn new(alloc: Global, tid: Tid) -> Self
         ensures { result ≡ begun tid [] }
     {
@@ -135,14 +127,14 @@ impl<R: Record> Transaction<R> {
         self.joined
     }
 
-    /// Whether it takes no further handles.
+    /// Whether it is locked.
     pub fn is_locked(&self) -> bool
         ensures { result ≡ self.now.locked }
     {
         self.locked
     }
 
-    /// How many blocks its steps touch, which is how many credits were paid for them.
+    /// How many blocks its steps touch: the credits paid for them.
     pub fn len(&self) -> usize
         ensures { result ≡ length (entries self.now.transaction.steps) }
     {
@@ -165,14 +157,14 @@ impl<R: Record> Transaction<R> {
         (copies, all - copies)
     }
 
-    /// The block's entry, which its last write or revoke leaves, or none if no step touches it.
+    /// The block's entry, which its last write or revoke leaves.
     pub fn get(&self, block: BlockNo) -> Option<&Entry>
         ensures { option_copied result ≡ effect block self.now.transaction.steps }
     {
         self.versions.running().get(&block)
     }
 
-    /// The newer entry of a block: its own, else its predecessor's while that is being committed.
+    /// The block's newer entry: its own, else its predecessor's while that is being committed.
     pub fn newest(&self, block: BlockNo) -> Option<&Entry>
         ensures { option_copied result ≡ later (lookup (nat_eq block) self.now.committing) (effect block self.now.transaction.steps) }
     {
@@ -189,7 +181,7 @@ impl<R: Record> Transaction<R> {
         }
     }
 
-    /// Adds a handle. The transaction must not be locked.
+    /// Adds a handle to an unlocked transaction.
     ///
     /// # Errors
     ///
@@ -232,7 +224,7 @@ impl<R: Record> Transaction<R> {
         Ok(())
     }
 
-    /// Adds a step that touches no block, such as a read; `reserve` made room for it.
+    /// Adds a step that touches no block; `reserve` made room for it.
     pub fn note(&mut self, step: Step)
         requires room { self.old.reserved ≡ true }
         requires untouched { entry_of step.op ≡ None }
@@ -243,12 +235,8 @@ impl<R: Record> Transaction<R> {
         keep_step::<R>(&mut self.steps, step);
     }
 
-    /// Adds a step, which leaves this entry of its block. The caller has checked that the touch is paid for. The list of steps grows
-    /// first, so that nothing changes if the entry has no room.
-    ///
-    /// # Errors
-    ///
-    /// `Memory`: nothing changes.
+    /// Adds a step that leaves this entry, and is paid for. The list of steps grows first, so that nothing changes if the entry has no
+    /// room.
     fn note_touch(&mut self, step: Step, entry: Entry) -> Result<(), JournalError>
         requires { entry_of step.op ≡ Some entry }
         ensures ok { OnOk result (self.new ≡ noting self.old step) }
@@ -262,7 +250,7 @@ impl<R: Record> Transaction<R> {
         Ok(())
     }
 
-    /// Which touch of the block this would be, if a handle with `left` credits may make it.
+    /// Which touch this would be, if `left` credits allow it.
     fn paid_touch(&self, left: u64, block: BlockNo) -> Result<Touch, JournalError>
         ensures ok { IfOk result (λ touch. MayTouch self.now left block touch) }
         ensures err { IfErr result (λ e. LacksCredit self.now left block e) }
@@ -274,7 +262,7 @@ impl<R: Record> Transaction<R> {
         Ok(touch)
     }
 
-    /// Writes one block for a handle with `left` credits. It answers which touch this is, and so its cost.
+    /// Writes one block for a handle with `left` credits, and answers which touch this is.
     ///
     /// # Errors
     ///
@@ -297,8 +285,8 @@ impl<R: Record> Transaction<R> {
         Ok(touch)
     }
 
-    /// Revokes a block for a handle with `left` credits: no older copy of it is to be replayed. It answers which touch this is, and so
-    /// its cost. If the block's entry is a revoke already, no entry changes.
+    /// Revokes a block for a handle with `left` credits, and answers which touch this is. If the block's entry is a revoke already, no
+    /// entry changes.
     ///
     /// # Errors
     ///
@@ -319,8 +307,8 @@ impl<R: Record> Transaction<R> {
         Ok(touch)
     }
 
-    /// A copy of its entries, as the batch to write to the log. The transaction stays, so that the batch may still be refused. One
-    /// request makes room for the list of all entries.
+    /// A copy of its entries, to be written to the log. The transaction stays, as the batch may still be refused. It makes one request
+    /// for memory, however many they are.
     ///
     /// # Errors
     ///
@@ -341,9 +329,8 @@ impl<R: Record> Transaction<R> {
         })
     }
 
-    /// Seals it: the record `into` gets it, and the next transaction begins in its place, with these entries as its predecessor's; none
-    /// is moved or copied. It must be locked, there must be a next number, its predecessor must be finished, and the record must have
-    /// room. It takes no memory and can't be refused.
+    /// Seals it: `into` records it, and the next transaction begins in its place, keeping these entries as its predecessor's. It must
+    /// be locked, its predecessor finished, a next number left, and the record must have room. It takes no memory and can't be refused.
     pub fn seal(&mut self, into: &mut R)
         requires locked { self.old.locked ≡ true }
         requires number { self.old.transaction.tid < 2 ^ 32 - 1 }

@@ -1,4 +1,4 @@
--- What steps leave of blocks: effects, touched blocks and entries, also with one more step at the end.
+-- Effects, touched blocks and entries of steps, also with one more step.
 use Rattle.std.proofs.Common.{◌≡◌, ◌⊎◌, inl, inr, ℕ, ◌==◌, false, not, if◌then◌else◌, List, [], ◌∷◌, ◌++◌, map, Option, Some, None, option_map, refl, sym, ◌∙◌, ap, arith, nat_eq, ◌≢◌, eq-eqb}
 use Rattle.std.proofs.lemmas.Bool.{cases_eq}
 use Rattle.std.proofs.lemmas.Option.{none-some, some_pair_parts}
@@ -17,7 +17,7 @@ pub later-none : (o : Option Entry) → later None o ≡ o
 later-none None = refl
 later-none (Some e) = refl
 
--- of three, the last counts, however they are grouped
+-- the last of three effects counts, however they are grouped
 pub later-later : (x y z : Option Entry) → later (later x y) z ≡ later x (later y z)
 later-later x y None = refl
 later-later x y (Some e) = refl
@@ -26,13 +26,13 @@ later-later x y (Some e) = refl
 abbrev pub step_effect : ℕ → Step → Option Entry
 step_effect b s = if s.block == b then entry_of s.op else None
 
--- the effect of steps, and then of more
+-- the effect of joined steps
 effect-append : (b : ℕ) (xs ys : List Step) → effect b (xs ++ ys) ≡ later (effect b xs) (effect b ys)
 effect-append b [] ys = sym (later-none (effect b ys))
 effect-append b (x ∷ xs) ys =
     ap (later (step_effect b x)) (effect-append b xs ys) ∙ sym (later-later (step_effect b x) (effect b xs) (effect b ys))
 
--- the effect of steps, and then of one more
+-- the effect of steps and one more
 pub effect-push : (b : ℕ) (ss : List Step) (s : Step) → effect b (ss ++ s ∷ []) ≡ later (effect b ss) (step_effect b s)
 effect-push b ss s = effect-append b ss (s ∷ [])
 
@@ -52,7 +52,7 @@ step_effect-some b s e made =
       | inr other ↦ absurd (none-some e (sym (step_effect-other b s other) ∙ made))
     ]
 
--- where the later of two is nothing, both are
+-- if the later of two is nothing, so are both
 later-is_none : (x y : Option Entry) → later x y ≡ None → (x ≡ None) × (y ≡ None)
 later-is_none x None e = (e, refl)
 later-is_none x (Some v) e = absurd (none-some v (sym e))
@@ -62,7 +62,7 @@ later-is_some : (x y : Option Entry) (e : Entry) → later x y ≡ Some e → (y
 later-is_some x None e h = inr (refl, h)
 later-is_some x (Some v) e h = inl h
 
--- a step that is no touch, and one that is
+-- a step that touches nothing, and one that does
 touched-cases : (s : Step) (ss : List Step) →
     ((entry_of s.op ≡ None) × (touched (s ∷ ss) ≡ touched ss))
     ⊎ ((e : Entry) × (entry_of s.op ≡ Some e) × (touched (s ∷ ss) ≡ s.block ∷ without s.block (touched ss)))
@@ -72,11 +72,11 @@ touched-cases s ss =
       | inr (e, made) ↦ inr (e, made, rw made)
     ]
 
--- what later steps leave of a block stays behind an earlier step
+-- an effect by later steps stays with an earlier step
 effect-before : (b : ℕ) (s : Step) (ss : List Step) → (e : Entry) × (effect b ss ≡ Some e) → (e : Entry) × (effect b (s ∷ ss) ≡ Some e)
 effect-before b s ss (e, made) = (e, ap (later (step_effect b s)) made)
 
--- a step that leaves something of its block, whatever later ones do
+-- a step's effect stays an effect with later steps
 effect-here : (b : ℕ) (s : Step) (ss : List Step) (e : Entry) → entry_of s.op ≡ Some e → s.block ≡ b → (f : Entry) × (effect b (s ∷ ss) ≡ Some f)
 effect-here b s ss e made same =
     elim (option-known (effect b ss)) [
@@ -99,7 +99,7 @@ touched-effect b (s ∷ ss) m =
           ]
     ]
 
--- what `without` keeps: all but the one number
+-- `without` keeps all other numbers
 contains-without : (x y : ℕ) (xs : List ℕ) → x ≢ y → Contains xs y → Contains (without x xs) y
 contains-without x y xs other m = contains-filter (λ z. not (z == x)) xs y m (grind (arith, nat_tests))
 
@@ -128,7 +128,7 @@ effect-touched b (s ∷ ss) e made =
           ])
     ]
 
--- without x, no number is x
+-- `without x` has no x
 without-apart : (x : ℕ) (xs : List ℕ) → AllByRecursion (λ y. nat_eq x y ≡ false) (without x xs)
 without-apart x [] = tt
 without-apart x (y ∷ ys) =
@@ -156,7 +156,7 @@ touched-distinct (s ∷ ss) =
 abbrev pub entry_with : (ℕ → Option Entry) → ℕ → Option (ℕ × Entry)
 entry_with f b = option_map (λ e. (b, e)) (f b)
 
--- an entry made for block c is one of block c, with the effect on it
+-- an entry made for block c is of c, with its effect
 entry_with-some : (f : ℕ → Option Entry) (c b : ℕ) (e : Entry) → entry_with f c ≡ Some (b, e) → f b ≡ Some e
 entry_with-some f c b e made =
     elim (option-known (f c)) [
@@ -166,7 +166,7 @@ entry_with-some f c b e made =
           ap f (sym parts.0) ∙ some ∙ ap Some parts.1
     ]
 
--- the blocks of entries, where each has an effect
+-- the blocks of entries, if each has an effect
 entry_blocks : (f : ℕ → Option Entry) (bs : List ℕ) → ((b : ℕ) → Contains bs b → (e : Entry) × (f b ≡ Some e)) → map (λ p. p.0) (filter_map (entry_with f) bs) ≡ bs
 entry_blocks f [] each = refl
 entry_blocks f (b ∷ bs) each =
@@ -199,12 +199,12 @@ without-push_same : (x y : ℕ) (xs : List ℕ) → x ≡ y → without x (xs ++
 without-push_same x y xs same =
     filter-append (λ z. not (z == x)) xs (y ∷ []) ∙ rw (eq-eqb y x (sym same), append-nil)
 
--- one more step that is no touch
+-- one more read leaves the touched blocks
 pub touched-push_read : (ss : List Step) (s : Step) → entry_of s.op ≡ None → touched (ss ++ s ∷ []) ≡ touched ss
 touched-push_read [] s read = rw read
 touched-push_read (t ∷ ss) s read = rw (touched-push_read ss s read)
 
--- one more touch of a block that has no effect yet
+-- one more touch of a block without an effect adds it
 pub touched-push_new : (ss : List Step) (s : Step) (e : Entry) → entry_of s.op ≡ Some e → effect s.block ss ≡ None → touched (ss ++ s ∷ []) ≡ touched ss ++ s.block ∷ []
 touched-push_new [] s e made fresh = rw made
 touched-push_new (t ∷ ss) s e made fresh =
@@ -217,7 +217,7 @@ touched-push_new (t ∷ ss) s e made fresh =
           rw (seen, rest) (ap (λ bs. t.block ∷ bs) (without-push t.block s.block (touched ss) other))
     ]
 
--- one more touch of a block that has an effect
+-- one more touch of a block with an effect adds nothing
 pub touched-push_known : (ss : List Step) (s : Step) (e old : Entry) → entry_of s.op ≡ Some e → effect s.block ss ≡ Some old → touched (ss ++ s ∷ []) ≡ touched ss
 touched-push_known [] s e old made known = absurd (none-some old known)
 touched-push_known (t ∷ ss) s e old made known =
@@ -229,7 +229,7 @@ touched-push_known (t ∷ ss) s e old made known =
           (ap (λ bs. t.block ∷ bs) (without-push_same t.block s.block (touched ss) parts.0))
     ]
 
--- a step that leaves nothing leaves nothing of any block
+-- a read has no effect on any block
 step_effect-read : (b : ℕ) (s : Step) → entry_of s.op ≡ None → step_effect b s ≡ None
 step_effect-read b s read =
     elim (cases_eq s.block b) [
@@ -237,21 +237,21 @@ step_effect-read b s read =
       | inr other ↦ step_effect-other b s other
     ]
 
--- one more step that leaves nothing leaves the entries as they are
+-- one more read leaves the entries as they are
 pub entries-push_read : (ss : List Step) (s : Step) → entry_of s.op ≡ None → entries (ss ++ s ∷ []) ≡ entries ss
 entries-push_read ss s read =
     rw (touched-push_read ss s read)
     (filter_map-agree (entry_with (λ b. effect b (ss ++ s ∷ []))) (entry_with (λ b. effect b ss)) (touched ss)
     (λ b m. ap (option_map (λ e. (b, e))) (effect-push b ss s ∙ ap (later (effect b ss)) (step_effect-read b s read))))
 
--- the entry of a touched block stays where one more step is of a block without one
+-- other entries stay when one more step touches a block without one
 entry_with-push_new : (ss : List Step) (s : Step) → effect s.block ss ≡ None → (b : ℕ) → Contains (touched ss) b → entry_with (λ b. effect b (ss ++ s ∷ [])) b ≡ entry_with (λ b. effect b ss) b
 entry_with-push_new ss s fresh b m =
     let seen : (e : Entry) × (effect b ss ≡ Some e) = touched-effect b ss m in
     let other : s.block ≢ b = λ same. none-some seen.0 (sym fresh ∙ ap (λ c. effect c ss) same ∙ seen.1) in
     ap (option_map (λ e. (b, e))) (effect-push b ss s ∙ ap (later (effect b ss)) (step_effect-other b s other))
 
--- one more touch of a block without an entry adds one at the end
+-- a touch of a block without an entry adds one at the end
 pub entries-push_new : (ss : List Step) (s : Step) (e : Entry) → entry_of s.op ≡ Some e → effect s.block ss ≡ None → entries (ss ++ s ∷ []) ≡ entries ss ++ (s.block, e) ∷ []
 entries-push_new ss s e made fresh =
     let here : effect s.block (ss ++ s ∷ []) ≡ Some e = effect-push s.block ss s ∙ ap (later (effect s.block ss)) (step_effect-same s.block s refl ∙ made) in
@@ -261,7 +261,7 @@ entries-push_new ss s e made fresh =
     ∙ filter_map-append (entry_with (λ b. effect b (ss ++ s ∷ []))) (touched ss) (s.block ∷ [])
     ∙ rw (old, here)
 
--- the entry of block b, where one more step changes that of its own block
+-- the entry of block b after a touch of a block with an entry
 entry_with-push_known : (ss : List Step) (s : Step) (e old : Entry) → entry_of s.op ≡ Some e → effect s.block ss ≡ Some old → (b : ℕ) →
     entry_with (λ b. effect b (ss ++ s ∷ [])) b ≡ option_map (λ p. if p.0 == s.block then (s.block, e) else p) (entry_with (λ b. effect b ss) b)
 entry_with-push_known ss s e old made known b =
@@ -279,7 +279,7 @@ entry_with-push_known ss s e old made known b =
           ])
     ]
 
--- one more touch of a block with an entry changes it in its place
+-- a touch of a block with an entry changes it in place
 pub entries-push_known : (ss : List Step) (s : Step) (e old : Entry) → entry_of s.op ≡ Some e → effect s.block ss ≡ Some old →
     entries (ss ++ s ∷ []) ≡ map (λ p. if p.0 == s.block then (s.block, e) else p) (entries ss)
 entries-push_known ss s e old made known =

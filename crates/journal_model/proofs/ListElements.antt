@@ -1,4 +1,4 @@
--- The elements of lists, of joined ones, of what `filter` keeps and of what `filter_map` gives.
+-- Elements of lists: of joined ones, of `filter`, and of `filter_map`.
 use Rattle.std.proofs.Common.{◌≡◌, ◌⊎◌, inl, inr, ℕ, zero, suc, ◌<◌, Bool, true, false, cond, List, [], ◌∷◌, ◌++◌, length, map, slice_get, Option, Some, None, option_map, refl, sym, ◌∙◌, ap, arith, ◌||◌, ◌==◌, eq-eqb, true≢false, ◌+◌, take, get_or}
 use Rattle.std.proofs.Math.Bool.{or-true}
 use Rattle.std.proofs.lemmas.Bool.{cases_eq}
@@ -13,7 +13,7 @@ pub option-known : {X : Type 0} (o : Option X) → (o ≡ None) ⊎ ((x : X) × 
 option-known None = inl refl
 option-known (Some x) = inr (x, refl)
 
--- an element of a list is its first, or one of those behind
+-- an element of a list is the first, or one of the rest
 pub contains-cases : {X : Type 0} (x : X) (xs : List X) (y : X) → Contains (x ∷ xs) y → (x ≡ y) ⊎ Contains xs y
 contains-cases x xs y (zero, l, e) = inl e
 contains-cases x xs y (suc k, l, e) = inr (k, omega arith, e)
@@ -22,7 +22,7 @@ contains-cases x xs y (suc k, l, e) = inr (k, omega arith, e)
 pub contains-first : {X : Type 0} (x : X) (xs : List X) (y : X) → x ≡ y → Contains (x ∷ xs) y
 contains-first x xs y e = (0, omega arith, e)
 
--- those behind are elements
+-- an element of the rest is an element
 pub contains-behind : {X : Type 0} (x : X) (xs : List X) (y : X) → Contains xs y → Contains (x ∷ xs) y
 contains-behind x xs y (k, l, e) = (suc k, omega arith, e)
 
@@ -30,7 +30,7 @@ contains-behind x xs y (k, l, e) = (suc k, omega arith, e)
 pub contains-none : {X : Type 0} (y : X) → Contains [] y → ⊥
 contains-none y (k, l, e) = omega arith
 
--- what stands behind an optional first element
+-- an element stays one after an optional first element
 contains-behind_option : {X : Type 0} (o : Option X) (xs : List X) (y : X) → Contains xs y → Contains (cons_option o xs) y
 contains-behind_option None xs y m = m
 contains-behind_option (Some x) xs y m = contains-behind x xs y m
@@ -84,7 +84,7 @@ contains-from_filter p (x ∷ xs) y =
       | false ↦ λ m. contains-behind x xs y (contains-from_filter p xs y m)
     ]
 
--- two functions that agree at each element give the same
+-- two functions that agree at each element give the same list
 pub filter_map-agree : {X Y : Type 0} (g h : X → Option Y) (xs : List X) → ((x : X) → Contains xs x → g x ≡ h x) → filter_map g xs ≡ filter_map h xs
 filter_map-agree g h [] same = refl
 filter_map-agree g h (x ∷ xs) same =
@@ -92,12 +92,12 @@ filter_map-agree g h (x ∷ xs) same =
     let rest : filter_map g xs ≡ filter_map h xs = filter_map-agree g h xs (λ y m. same y (contains-behind x xs y m)) in
     rw (here, rest)
 
--- f of the optional first element and of those behind it
+-- f of a list with an optional first element
 map-cons_option : {Y Z : Type 0} (f : Z → Y) (o : Option Z) (zs : List Z) → map f (cons_option o zs) ≡ cons_option (option_map f o) (map f zs)
 map-cons_option f None zs = refl
 map-cons_option f (Some z) zs = refl
 
--- a function that gives f of what h gives
+-- f of what h gives maps the list of h
 pub filter_map-map : {X Y Z : Type 0} (g : X → Option Y) (h : X → Option Z) (f : Z → Y) → ((x : X) → g x ≡ option_map f (h x)) → (xs : List X) → filter_map g xs ≡ map f (filter_map h xs)
 filter_map-map g h f same [] = refl
 filter_map-map g h f same (x ∷ xs) =
@@ -128,17 +128,17 @@ get-front [] ys k below = absurd (omega arith)
 get-front (x ∷ xs) ys zero below = refl
 get-front (x ∷ xs) ys (suc k) below = get-front xs ys k (omega arith)
 
--- an element of the second
+-- an element of the second of two joined lists
 pub get-behind : {X : Type 0} (xs ys : List X) (k j : ℕ) → k ≡ length xs + j → slice_get (xs ++ ys) k ≡ slice_get ys j
 get-behind [] ys k j place = ap (slice_get ys) (omega arith)
 get-behind (x ∷ xs) ys zero j place = absurd (omega arith)
 get-behind (x ∷ xs) ys (suc k) j place = get-behind xs ys k j (omega arith)
 
--- the first i + 1 elements, where the one at i was read
+-- the first i + 1 elements, if the one at i was read
 pub take-more_read : {X : Type 0} (xs : List X) (i : ℕ) (x : X) → i < length xs → x ≡ get_or xs i x → take (i + 1) xs ≡ take i xs ++ x ∷ []
 take-more_read xs i x below read = take_more xs i x below ∙ ap (λ y. take i xs ++ y ∷ []) (sym read)
 
--- whether a test finds an element in joined lists
+-- a test finds an element in joined lists if it finds one in some list
 pub any-flat_map : {X Y : Type 0} (p : Y → Bool) (f : X → List Y) (xs : List X) → list_any p (flat_map f xs) ≡ list_any (λ x. list_any p (f x)) xs
 any-flat_map p f [] = refl
 any-flat_map p f (x ∷ xs) = list_any-append p (f x) (flat_map f xs) ∙ ap (λ b. list_any p (f x) || b) (any-flat_map p f xs)
@@ -170,7 +170,7 @@ pub each-map : {X Y : Type 0} (P : X → Type 0) (Q : Y → Type 0) (f : X → Y
 each-map P Q f step [] each = tt
 each-map P Q f step (x ∷ xs) each = (step x each.0, each-map P Q f step xs each.1)
 
--- a fact of each element of two lists is one of each element of both
+-- a fact of each element of two lists holds of the joined list
 pub each-append : {X : Type 0} (P : X → Type 0) (xs ys : List X) →
     AllByRecursion P xs → AllByRecursion P ys →
     AllByRecursion P (xs ++ ys)

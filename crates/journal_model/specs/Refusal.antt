@@ -1,11 +1,10 @@
--- The refusals and their numbers. They are this project's own; those of an opening are, with the exceptions
--- that docs/DECISIONS.md names, what fs/jbd2 tests when it loads a journal.
+-- The refusals and their numbers, this project's own. Those of an opening are what fs/jbd2 tests when it
+-- loads a journal, except as docs/DECISIONS.md names.
 use Rattle.std.specs.Prelude.{ℕ, ◌++◌, List, codes}
 use Rattle.std.specs.Fmt.{decimal}
 use Rattle.journal_model.specs.declared.refusal.JournalError.{JournalError}
 use Rattle.journal_model.specs.declared.refusal.JournalError.TheVariants.{Memory, Device, Aborted, NoCredit, Full, TooMany, NotRunning, BadBlock, NotDirect, SequenceEnd, NeedSpace, Revoked, BadMagic, BadType, BadBlockSize, BadLength, BadFirst, BadFeature, BadStart, ErrnoSet, Ahead, Damage, AlreadyWide, NotEmpty}
 
--- the number by which a refusal is printed
 abbrev pub number_of : JournalError → ℕ
 number_of Memory = 1
 number_of Device = 2
@@ -32,7 +31,7 @@ number_of (Damage place) = 22
 number_of AlreadyWide = 23
 number_of NotEmpty = 24
 
--- the name by which it is printed, with the place of the block where it is about one
+-- the printed name, with the block's place if it has one
 abbrev pub refusal_text : JournalError → List ℕ
 refusal_text Memory = codes "Memory"
 refusal_text Device = codes "Device"

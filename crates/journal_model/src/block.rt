@@ -1,11 +1,11 @@
-//! The bytes of one block.
+//! What a block is: its bytes, shared by its clones.
 ghost use Rattle.std.specs.Prelude.{◌≡◌, ◌<◌, List, ℕ, IfOk};
 
 use std::alloc::{AllocError, Global};
 use std::marker::Model;
 use std::sync::Arc;
 
-/// The bytes of one block, which its clones share. Contracts see the list of the bytes.
+/// The bytes of one block, shared by its clones. Contracts see the list of bytes.
 #[derive(Debug, Drop)]
 pub struct Block {
     bytes: Arc<Vec<u8>>,
@@ -21,7 +21,11 @@ impl Model for Block {
 }
 
 impl Block {
-    /// A block of these bytes. It fails where memory runs out.
+    /// A block of these bytes.
+    ///
+    /// # Errors
+    ///
+    /// `AllocError`: memory ran out.
     pub fn new(bytes: Vec<u8>) -> Result<Self, AllocError>
         ensures { IfOk result (λ block. block ≡ bytes.items) }
     {
@@ -31,14 +35,22 @@ impl Block {
         })
     }
 
-    /// A block that holds a copy of these bytes. It fails where memory runs out.
+    /// A block with a copy of these bytes.
+    ///
+    /// # Errors
+    ///
+    /// `AllocError`: memory ran out.
     pub fn copy_of(alloc: Global, bytes: &[u8]) -> Result<Self, AllocError>
         ensures { IfOk result (λ block. block ≡ bytes.now) }
     {
         Block::new(bytes.to_vec(alloc)?)
     }
 
-    /// A block that shares its bytes. It takes no memory, and fails where they have more holders than can be counted.
+    /// A block that shares these bytes, without new memory.
+    ///
+    /// # Errors
+    ///
+    /// `AllocError`: they have too many holders to count.
     pub fn try_clone(&self) -> Result<Self, AllocError>
         ensures { IfOk result (λ block. block ≡ self.now) }
     {
@@ -47,14 +59,13 @@ impl Block {
         })
     }
 
-    /// The bytes.
     pub fn bytes(&self) -> &[u8]
         ensures { result.now ≡ self.now }
     {
         self.bytes.as_slice()
     }
 
-    /// How many blocks share these bytes, this one among them.
+    /// The number of blocks that share these bytes, with this one.
     pub fn holders(&self) -> usize
         ensures { 0 < result }
     {

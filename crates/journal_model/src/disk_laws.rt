@@ -1,5 +1,4 @@
-//! Laws of a disk that may lose power. Each function states a law of the words in `specs/Disk.antt`, and has no body to
-//! run.
+//! What a disk may hold after a crash. Each function states one law; no body runs.
 ghost use Rattle.std.specs.Prelude.{◌≡◌, ◌⊎◌, ℕ, List, true};
 ghost use Rattle.journal_model.specs.declared.number.Area.{Area};
 ghost use Rattle.journal_model.specs.Disk.{Disk, Image, IsOneOf, Leaves, held, written, handed_over, flushed, reading, disk_of, same_area};
@@ -9,15 +8,16 @@ pub fn what_is_read_may_be_left()
     ensures { (disk : Disk) → Leaves disk (reading disk) }
 {}
 
-/// After a flush a crash leaves each block of the area as it reads, and of the other area what it might have left before.
+/// After a flush of an area a crash leaves its blocks as they read, and of the other area what it might have left
+/// before.
 pub fn a_flush_makes_its_area_durable()
     ensures own { (disk : Disk) (a : Area) (image : Image) (n : ℕ) → Leaves (flushed disk a) image → image a n ≡ (disk a n).reads }
     ensures other { (disk : Disk) (a b : Area) (image : Image) (n : ℕ) → (same_area b a ≡ true → ⊥) → Leaves (flushed disk a) image →
         IsOneOf (held (disk b n)) (image b n) }
 {}
 
-/// After a write a crash leaves of that block the new value or what it might have left before; so it does after a failed
-/// one that was handed over, which still reads as before.
+/// After a write, also a failed one that was handed over, a crash leaves of the block the new value or one that it
+/// might have left before. The failed one reads as before.
 pub fn a_write_may_be_left_or_not()
     ensures written { (disk : Disk) (a : Area) (n : ℕ) (v u : List ℕ) →
         IsOneOf (held (written disk a n v a n)) u → (u ≡ v) ⊎ IsOneOf (held (disk a n)) u }

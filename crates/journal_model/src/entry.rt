@@ -1,4 +1,4 @@
-//! What a transaction leaves of the blocks that it touched, and what is written to the log for it.
+//! What a transaction leaves of a block, and what goes to the log for it.
 ghost use Rattle.std.specs.Prelude.{◌≡◌, IfOk};
 
 use crate::{Block, BlockNo, Items, Tid};
@@ -7,14 +7,14 @@ use std::alloc::AllocError;
 /// What a transaction leaves of a block that it touched.
 #[derive(Debug, Drop)]
 pub enum Entry {
-    /// The block's bytes: the last operation on it was a write.
+    /// The last operation was a write of these bytes.
     Copy(Block),
-    /// No older copy of the block is to be replayed: the last operation on it was a revoke.
+    /// The last operation was a revoke: no older copy of the block may be replayed.
     Revoke,
 }
 
 impl Entry {
-    /// The same entry once more, which shares the bytes of a copy. It fails as a clone of a block does.
+    /// The same entry, sharing the bytes of a copy. It fails as `Block::try_clone` does.
     pub fn try_clone(&self) -> Result<Self, AllocError>
         ensures { IfOk result (λ entry. entry ≡ self.now) }
     {
@@ -25,20 +25,19 @@ impl Entry {
     }
 }
 
-/// What is written to the log for one transaction.
+/// What goes to the log for one transaction.
 #[derive(Debug, Drop)]
 pub struct Batch {
-    /// The transaction's number.
     pub tid: Tid,
-    /// An entry for each block that it touched, in the order of the first touches.
+    /// One entry for each touched block, in the order of first touches.
     pub entries: Items<(BlockNo, Entry)>,
 }
 
 /// What a block is after some transactions.
 #[derive(Debug, Drop)]
 pub enum Content {
-    /// The bytes of its last copy in them.
+    /// The last effect is this copy.
     Copy(Block),
-    /// What the home area holds: no copy of it is in them, or the last was revoked.
+    /// What home holds: the transactions have no copy of it, or the last effect is a revoke.
     Direct,
 }

@@ -1,14 +1,11 @@
-//! What was handed over so far, as contracts know it.
-//!
-//! A [`History`] lets a contract speak of things that the program keeps no more. It takes no memory, and its functions
-//! do nothing at run time.
+//! A list for contracts alone, of values that the program no longer keeps. It takes no memory.
 ghost use Rattle.std.specs.Prelude.{◌≡◌, List, [], ◌∷◌, ◌++◌};
 ghost use Rattle.std.specs.Borrow.{ftrue};
 
 use std::fmt;
 use std::marker::{Model, PhantomData};
 
-/// What was handed over so far, for contracts alone: it takes no memory. A clause reads it as `items`, the oldest first.
+/// A list for contracts alone. A clause reads it as `items`, oldest first.
 pub struct History<T> {
     marker: PhantomData<T>,
     pub ghost items: { List T },
@@ -20,13 +17,13 @@ impl<T> Model for History<T> {
     ghost also_shares = { λ _ _ _. ftrue };
 }
 
-// It owns nothing, so whether a `T` may go to another thread does not matter.
+// It owns nothing, so it may go to another thread whatever `T` is.
 unsafe impl<T> Send for History<T> {}
 
 unsafe impl<T> Sync for History<T> {}
 
 impl<T> History<T> {
-    /// Nothing so far.
+    /// An empty list.
     pub fn new() -> History<T>
         ensures { result.items ≡ [] }
     {
@@ -35,7 +32,7 @@ impl<T> History<T> {
         }
     }
 
-    /// One more item, which the caller keeps.
+    /// Adds an item, which the caller keeps.
     pub fn push(&mut self, _item: &T)
         ensures { self.new.items ≡ self.old.items ++ _item.now ∷ [] }
     {}
@@ -47,7 +44,6 @@ impl<T> Drop for History<T> {
     }
 }
 
-/// It has no items to show at run time.
 impl<T> fmt::Debug for History<T> {
     fn fmt<W: fmt::Write>(&self, f: &mut fmt::Formatter<W>) -> fmt::Result {
         f.write_str("History")

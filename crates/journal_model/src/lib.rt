@@ -1,6 +1,7 @@
-//! The words of the journal: its numbers, blocks, entries, transactions and refusals, the disk that may lose power, and the numbers
-//! that a log is written with. `specs/` has the definitions that the promises of the crates above are stated by, those on logs
-//! apart, which `log_model` has.
+//! The terms of the journal: numbers, blocks, entries, transactions, refusals, the disk that may crash, and the log format's
+//! numbers.
+//!
+//! `specs/` defines what all promises use; `log_model` has the definitions about logs.
 #![tactic(auto)]
 
 mod block;

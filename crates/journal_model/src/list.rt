@@ -1,10 +1,10 @@
-//! A list of which contracts see the values alone.
+//! A list whose capacity contracts do not see.
 ghost use Rattle.std.specs.Prelude.{◌≡◌, ◌++◌, ◌∷◌, [], List, length, OnOk, OnErr};
 
 use std::alloc::{AllocError, Global};
 use std::marker::Model;
 
-/// Values in order. Contracts see the list of them, whatever room is reserved.
+/// Values in order. Contracts see the list, not the reserved room.
 #[derive(Debug, Drop)]
 pub struct Items<T> {
     items: Vec<T>,
@@ -17,7 +17,7 @@ impl<T> Model for Items<T> {
 }
 
 impl<T> Items<T> {
-    /// No values. It takes no memory.
+    /// An empty list, without memory.
     pub fn new(alloc: Global) -> Self
         ensures { result ≡ [] }
     {
@@ -33,7 +33,11 @@ impl<T> Items<T> {
         Items { items }
     }
 
-    /// Adds a value at the end. Where memory runs out the list stays as it was and the value is dropped.
+    /// Adds a value at the end.
+    ///
+    /// # Errors
+    ///
+    /// `AllocError` if memory runs out: the list is unchanged, and the value is dropped.
     pub fn push(&mut self, item: T) -> Result<(), AllocError>
     where
         T: Drop,
@@ -44,14 +48,12 @@ impl<T> Items<T> {
         Ok(())
     }
 
-    /// How many values there are.
     pub fn len(&self) -> usize
         ensures { result ≡ length self.now }
     {
         self.items.len()
     }
 
-    /// The values.
     pub fn as_slice(&self) -> &[T]
         ensures { result.now ≡ self.now }
     {

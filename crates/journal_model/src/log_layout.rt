@@ -1,8 +1,8 @@
-//! The layout of a log: what differs from log to log in the bytes of its blocks.
+//! What differs from log to log in the bytes of its blocks.
 ghost use Rattle.std.specs.Prelude.{◌≡◌, ◌^◌, min};
 ghost use Rattle.journal_model.specs.Layout.{IsLayout, every_number, narrow, tag_bytes, wide};
 
-/// The layout of a log. An opening finds it in the superblock, and all that reads or writes the log goes by it.
+/// The layout of a log, as its superblock has it.
 /// Source: journal.rst, "Layout".
 #[derive(Clone, Copy, Debug, PartialEq, Eq)]
 pub struct LogLayout {
@@ -13,7 +13,7 @@ pub struct LogLayout {
 }
 
 impl LogLayout {
-    /// The layout of a log whose block numbers have 32 bits.
+    /// The layout with 32-bit block numbers.
     pub const fn narrow(block_size: usize) -> Self
         ensures { result ≡ narrow block_size }
     {
@@ -23,7 +23,7 @@ impl LogLayout {
         }
     }
 
-    /// The layout of a log whose block numbers have 64 bits.
+    /// The layout with 64-bit block numbers.
     pub const fn wide(block_size: usize) -> Self
         ensures { result ≡ wide block_size }
     {
@@ -33,7 +33,7 @@ impl LogLayout {
         }
     }
 
-    /// Bytes of a tag, without the UUID that may follow it.
+    /// Bytes of a tag, without a UUID.
     /// Source: journal.rst, "Descriptor Block".
     pub fn tag_bytes(self) -> usize
         requires { IsLayout self }
@@ -42,7 +42,8 @@ impl LogLayout {
         self.number_bytes + 4
     }
 
-    /// The number behind the greatest block that a transaction may touch: a tag can spell it, and it has at most 48 bits.
+    /// One more than the greatest block that a transaction may touch, by the width of numbers and the limit of
+    /// 48 bits.
     pub fn block_limit(self) -> u64
         requires { IsLayout self }
         ensures { result ≡ min (every_number self) (2 ^ 48) }

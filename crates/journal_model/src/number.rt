@@ -1,4 +1,4 @@
-//! The numbers of blocks, transactions and handles.
+//! The numbers of blocks, transactions and handles, and which blocks a transaction may touch.
 ghost use Rattle.std.specs.Prelude.{◌↔◌, IsTrue};
 ghost use Rattle.journal_model.specs.Block.{IsAllowedBlock};
 ghost use Rattle.journal_model.specs.Layout.{IsLayout};
@@ -9,13 +9,13 @@ use std::marker::Model;
 /// One of the two parts of the disk that a journal works on.
 #[derive(Clone, Copy, Debug, PartialEq, Eq, Hash)]
 pub enum Area {
-    /// The log: the superblock at block 0, and behind it the ring.
+    /// The log: the superblock at block 0, then the ring.
     Log,
     /// The home area: the volume that the journal protects.
     Home,
 }
 
-/// The number of a block of the home area, counted in blocks from 0.
+/// The number of a home block, counted from 0.
 #[derive(Clone, Copy, Debug, PartialEq, Eq, PartialOrd, Ord, Hash)]
 pub struct BlockNo(pub u64);
 
@@ -30,8 +30,7 @@ impl Model for BlockNo {
 }
 
 impl BlockNo {
-    /// Whether a transaction may touch the block: a home area of so many blocks has it, a tag of this layout can spell it, and its
-    /// number has at most 48 bits.
+    /// Whether a transaction may touch the block: it is one of `home_blocks`, a tag can spell it, and it has at most 48 bits.
     /// Source: journal.rst, "Descriptor Block" (the width of a block number); the 48 bits are this project's own.
     pub fn is_allowed(self, layout: LogLayout, home_blocks: u64) -> bool
         requires { IsLayout layout }
@@ -41,7 +40,7 @@ impl BlockNo {
     }
 }
 
-/// The number of a transaction, as it stands in the headers of its log blocks.
+/// The number of a transaction, as in the headers of its log blocks.
 #[derive(Clone, Copy, Debug, PartialEq, Eq, PartialOrd, Ord, Hash)]
 pub struct Tid(pub u32);
 
@@ -55,7 +54,7 @@ impl Model for Tid {
     ghost inverse = { λ n. record { 0 = n } };
 }
 
-/// The number of a handle. No two handles of a journal have the same one.
+/// The number of a handle, unique in its journal.
 #[derive(Clone, Copy, Debug, PartialEq, Eq, PartialOrd, Ord, Hash)]
 pub struct HandleNo(pub u64);
 

@@ -3,32 +3,32 @@ use std::alloc::{AllocError, AllocFailed};
 use std::error::Error;
 use std::fmt;
 
-/// Why a call was refused. Each refusal has a number, by which programs print it.
+/// Why a call was refused. Programs print the refusal's number.
 #[derive(Clone, Copy, Debug, PartialEq, Eq)]
 pub enum JournalError {
-    /// 1: a growth was refused.
+    /// 1: memory ran out.
     Memory,
     /// 2: the device failed during this call.
     Device,
-    /// 3: a device fault was met earlier.
+    /// 3: the device failed earlier.
     Aborted,
-    /// 4: a first touch by a handle without a credit left.
+    /// 4: the first touch of a block by a handle with no credit left.
     NoCredit,
-    /// 5: the credits held, with those under a take-back, leave fewer than asked.
+    /// 5: the credits held, with those of refused reserves, leave fewer than asked.
     Full,
-    /// 6: more credits asked than one transaction can have.
+    /// 6: more credits than one transaction can have.
     TooMany,
     /// 7: the current transaction is locked.
     NotRunning,
     /// 8: a block number that is not allowed.
     BadBlock,
-    /// 9: a direct write to a block that isn't free for it.
+    /// 9: a direct write to a block that is not free for it.
     NotDirect,
     /// 10: no transaction number up to 0xfffffff0 is left, or no handle number below 2^64.
     SequenceEnd,
     /// 11: the ring has fewer free blocks than needed.
     NeedSpace,
-    /// 12: a read of a block that was last revoked, in a transaction that isn't finished yet.
+    /// 12: a read of a block whose last effect is a revoke in an unfinished transaction.
     Revoked,
     /// 13: a superblock without the magic.
     BadMagic,
@@ -46,18 +46,18 @@ pub enum JournalError {
     BadStart,
     /// 20: s_errno isn't 0.
     ErrnoSet,
-    /// 21: the lowest ring block (its place in the log area) that begins with the magic and whose
-    /// sequence is above what the log may hold.
+    /// 21: the lowest ring block (its place in the log area) with the magic and a sequence above what the log
+    /// may hold.
     Ahead(u64),
-    /// 22: the first malformed block behind the complete transactions of the log (its place in the log area).
+    /// 22: the first malformed block after the log's complete transactions (its place in the log area).
     Damage(u64),
-    /// 23: an upgrade of a log whose block numbers have 64 bits.
+    /// 23: an upgrade of a log that already has 64-bit block numbers.
     AlreadyWide,
     /// 24: an upgrade of a log that is not clean.
     NotEmpty,
 }
 
-/// Its name, and the place of the block where it is about one.
+/// The refusal's name, and the block's place if it has one.
 impl fmt::Display for JournalError {
     ghost use Rattle.std.specs.Prelude.{Some};
     ghost use Rattle.journal_model.specs.Refusal.{refusal_text};
@@ -107,7 +107,7 @@ impl From<AllocError> for JournalError {
     }
 }
 
-/// So that `list.push(value)?` answers `Memory`. The value that found no room is dropped.
+/// So that `list.push(value)?` answers `Memory`. The value is dropped.
 impl<T: Drop> From<AllocFailed<T>> for JournalError {
     ghost use Rattle.std.specs.Prelude.{◌≡◌};
     ghost use Rattle.journal_model.specs.declared.refusal.JournalError.TheVariants.{Memory};
@@ -123,7 +123,7 @@ impl JournalError {
     ghost use Rattle.std.specs.Prelude.{◌≡◌};
     ghost use Rattle.journal_model.specs.Refusal.{number_of};
 
-    /// The refusal's number, 1 to 24.
+    /// The refusal's number, from 1 to 24.
     pub fn number(&self) -> u8
         ensures { result ≡ number_of self.now }
     {

@@ -1,10 +1,10 @@
-//! What is told of a transaction: whether it is committed.
+//! Whether a transaction is committed.
 
-/// Whether a handle's transaction is committed, as far as the commit mark tells.
+/// Whether a handle's transaction is committed, by the commit mark.
 #[derive(Clone, Copy, Debug, PartialEq, Eq)]
 pub enum Status {
-    /// The mark has come to its number: it is durable.
+    /// The mark has reached its number: it is durable.
     Committed,
-    /// Not yet.
+    /// The mark has not reached it.
     Open,
 }

@@ -1,36 +1,31 @@
-//! Steps of handles, and the transactions that they make up.
+//! Which steps handles make, and what a transaction keeps of them.
 use crate::{Block, BlockNo, HandleNo, Items, Tid};
 
-/// What one step of a handle does to a block.
+/// What a step does to its block.
 #[derive(Debug, Drop)]
 pub enum Op {
-    /// The block's new bytes.
+    /// Writes these bytes.
     Write(Block),
-    /// Older copies of the block are not to be replayed.
+    /// Revokes older copies of the block: none may be replayed.
     Revoke,
-    /// The bytes that a read handed out.
+    /// Reads these bytes.
     Read(Block),
 }
 
 /// One accepted operation of a handle.
 #[derive(Debug, Drop)]
 pub struct Step {
-    /// The handle that made it.
     pub handle: HandleNo,
-    /// The block that it is about.
     pub block: BlockNo,
-    /// What it does.
     pub op: Op,
 }
 
-/// A transaction that takes no further handles: its handles in the order in which they joined, and its
-/// steps in the order in which they were accepted.
+/// A transaction that takes no more handles.
 #[derive(Debug, Drop)]
 pub struct Sealed {
-    /// The transaction's number.
     pub tid: Tid,
-    /// Its handles, in the order in which they joined.
+    /// In the order of joining.
     pub handles: Items<HandleNo>,
-    /// Its steps, in the order in which they were accepted.
+    /// In the order of acceptance.
     pub steps: Items<Step>,
 }

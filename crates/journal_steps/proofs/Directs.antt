@@ -38,11 +38,11 @@ first-none x None none = none
 first-none x (Some e) none = absurd (none-some e (sym none))
 
 module _ (j : Journal) (agrees : Agrees j) (plain : IsPlain j.engine) (b : ℕ) where
-  -- a block may be written directly if neither front nor engine has an entry of it
+  -- a block may be written directly if the front has no unfinished entry of it and the engine leaves it to home
   pub right-from : IsUntouched j.front b → IsLeftToHome j.engine b → MayWriteDirectly j b
   right-from untouched left = front-right j.front j.engine b agrees.batches (few j agrees plain) untouched left
 
-  -- the engine's uncommitted transactions are among the front's unfinished ones
+  -- then the engine's uncommitted transactions have no entry of it either
   untouched-below : IsUntouched j.front b → last_effect b (drop j.engine.committed j.front.sealed) ≡ None
   untouched-below untouched =
       let c = j.engine.committed in
@@ -57,7 +57,7 @@ module _ (j : Journal) (agrees : Agrees j) (plain : IsPlain j.engine) (b : ℕ) 
       first-none (last_effect b (drop c j.front.sealed)) (effect b j.front.running.steps)
       (sym both ∙ ap (last_effect b) (sym behind) ∙ ap (last_effect b) (sym count) ∙ untouched)
 
-  -- a block that may be written directly has no entry in front or engine
+  -- a block that may be written directly has no unfinished entry in the front, and the engine leaves it to home
   pub right-gives : MayWriteDirectly j b → IsUntouched j.front b × IsLeftToHome j.engine b
   right-gives right = (
     right.untouched,
@@ -95,7 +95,7 @@ pub agrees-direct : (f : Front) (old new : Engine) (disk after : Disk) (call : C
     DirectSteps old disk call new after → Agrees (record { front = f; engine = new })
 agrees-direct f old new disk after call agrees step = subst (λ (e : Engine). Agrees (record { front = f; engine = e })) (sym step.engine) agrees
 
--- they agree after a failed one, once the front is told
+-- they agree after a failed one, once the front is notified
 pub agrees-direct_fault : (f front : Front) (old new : Engine) (disk after : Disk) (call : Call) → Agrees (record { front = f; engine = old }) →
     front ≡ aborting f → DirectFaults old disk call new after → Agrees (record { front = front; engine = new })
 agrees-direct_fault f front old new disk after call agrees told fault =
@@ -110,11 +110,11 @@ during-unwritten j b v disk opens = record {
   opens = opens;
 }
 
--- a front told what it knows stays as it was
+-- a front notified of what it has recorded stays as it was
 told-same : (f : Front) (aborted : Bool) → aborted ≡ f.aborted → record f { aborted = aborted } ≡ f
 told-same f aborted same = ap (λ (a : Bool). record f { aborted = a }) same
 
--- so it does if it is told what an unchanged engine knows
+-- so it does if an unchanged engine notifies it
 told-unchanged : {D : Type 0} (f front : Front) (old new : EngineValue D) → Agrees (record { front = f; engine = old.engine }) →
     front ≡ record f { aborted = new.engine.aborted } → new ≡ old → front ≡ f
 told-unchanged {D} f front old new agrees told unchanged =
@@ -127,7 +127,7 @@ agrees-unchanged {D} f front old new agrees told unchanged =
     subst (λ (x : Front). Agrees (record { front = x; engine = new.engine })) (sym (told-unchanged f front old new agrees told unchanged))
     (subst (λ (x : EngineValue D). Agrees (record { front = f; engine = x.engine })) (sym unchanged) agrees)
 
--- they agree after a refused direct write, once the front is told what the engine knows
+-- they agree after a refused direct write, once the engine notifies the front
 pub agrees-unwritten : {D : Type 0} (state : D → DeviceState) (f front : Front) (old new : EngineValue D) (b : ℕ) (v : List ℕ) (e : JournalError) →
     Agrees (record { front = f; engine = old.engine }) → front ≡ record f { aborted = new.engine.aborted } → EngineWriteRefused state old b v new e →
     Agrees (record { front = front; engine = new.engine })
@@ -159,7 +159,7 @@ refused-direct state f front old new b v e agrees plain running may untouched to
     })
     counted
 
--- after a refused flush of home, front and engine agree once the front is told
+-- they agree after a refused flush of home, once the front is notified
 pub agrees-unsynced : {D : Type 0} (state : D → DeviceState) (f front : Front) (old new : EngineValue D) (e : JournalError) →
     Agrees (record { front = f; engine = old.engine }) → front ≡ aborting f → EngineSyncRefused state old new e →
     Agrees (record { front = front; engine = new.engine })

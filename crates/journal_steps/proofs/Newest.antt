@@ -51,7 +51,7 @@ module _ {D : Type 0} (state : D → DeviceState) (honest : D → Type 0) (f : F
     pending = λ still i w is. let p = pending i w is in (p.0, ap (λ (x : EngineValue D). together f x) p.1);
   }
 
-  -- or the device failed, and the front is told
+  -- or the device failed, and the front is notified
   pub refused-newest : (front : Front) (new : EngineValue D) (e : JournalError) → last_effect b (unfinished f) ≡ None → Stays (state old.device) (state new.device) →
       front ≡ aborting f → ReadRefused state old b new e → NewestRefused state (together f old) b (together front new) e
   refused-newest front new e none stays told (ReadAborted is same) = absurd (true≢false (sym is ∙ sym agrees.aborted ∙ running))

@@ -37,7 +37,7 @@ agrees-round f old new disk after Step agrees did =
 agrees-round f old new disk after (Done tid) agrees did =
     let keeps = round-keeps old new disk after did.0 in agrees-moved f old new agrees keeps.0 keeps.1 (round-unfailed old new disk after did.0)
 
--- a front and an aborted engine agree once the front is told
+-- a front and an aborted engine agree once the front is notified
 agrees-aborted : (f : Front) (e : Engine) → Agrees (record { front = f; engine = e }) → e.aborted ≡ true → Agrees (record { front = aborting f; engine = e })
 agrees-aborted f e agrees is = agrees-told f e e agrees (record { shape = refl; layout = refl; accepted = refl; first = refl; ring = refl }) true refl is
 
@@ -52,7 +52,7 @@ agrees-round_refused f front old new before after e agrees told (RoundFailed fau
     subst (λ (x : Front). Agrees (record { front = x; engine = new })) (sym told)
     (agrees-told f old new agrees keeps.0 true keeps.1 (ap (λ (x : Engine). x.aborted) fault.engine))
 
--- a front told again of a failure stays as it was
+-- a front notified again of a failure stays as it was
 pub told-again : (f : Front) (e : Engine) → Agrees (record { front = f; engine = e }) → e.aborted ≡ true → aborting f ≡ f
 told-again f e agrees is = ap (λ (b : Bool). record f { aborted = b }) (sym (agrees.aborted ∙ is))
 
@@ -89,7 +89,7 @@ pub done-check : {D : Type 0} (state : D → DeviceState) (f : Front) (d other :
     (record { device = other; journal = record { front = f; engine = new } })
 done-check state f d other old new tid did = (record { front = refl; engine = did.0 }, did.1, did.2)
 
--- front and engine agree after a refused read, once the front is told
+-- front and engine agree after a refused read, once the front is notified
 pub agrees-read_refused : {D : Type 0} (state : D → DeviceState) (f front : Front) (old new : EngineValue D) (b : ℕ) (e : JournalError) →
     Agrees (record { front = f; engine = old.engine }) → old.engine.aborted ≡ false → IsAllowedBlock old.engine.layout old.engine.shape.home_blocks b →
     front ≡ aborting f → ReadRefused state old b new e → Agrees (record { front = front; engine = new.engine })
@@ -101,7 +101,7 @@ agrees-read_refused state f front old new b e agrees running may told (ReadFaile
     subst (λ (x : Front). Agrees (record { front = x; engine = new.engine })) (sym told)
     (subst (λ (x : Engine). Agrees (record { front = aborting f; engine = x })) (sym same) now)
 
--- the engine refuses a read of an allowed block without a copy in the front only if the device failed
+-- if the front has no entry of an allowed block, the engine's refusal of a read is the journal's
 pub refused-read : {D : Type 0} (state : D → DeviceState) (f front : Front) (old new : EngineValue D) (h : HandleValue) (b : ℕ) (e : JournalError) →
     Agrees (record { front = f; engine = old.engine }) → MayStep f h b → last_effect b (unfinished f) ≡ None →
     Stays (state old.device) (state new.device) → front ≡ aborting f → ReadRefused state old b new e →

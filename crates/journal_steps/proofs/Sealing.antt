@@ -303,7 +303,7 @@ pub refused-seal : {D : Type 0} (state : D → DeviceState) (f : Front) (d : D) 
 refused-seal state f d e new r due room (AfterFailure is) same = absurd (true≢false (sym is ∙ due.running))
 refused-seal state f d e new r due room (MemoryIsShort running) same = NoMemory due room same
 
--- front and engine agree after a refused step, once the front is told
+-- front and engine agree after a refused step, once the front is notified
 pub agrees-refused : (f front : Front) (old new : Engine) (before after : DeviceState) (e : JournalError) → Agrees (record { front = f; engine = old }) →
     front ≡ aborting f → StepRefused old before new after e → Agrees (record { front = front; engine = new })
 agrees-refused f front old new before after e agrees told (WasAborted is same stays counted) =

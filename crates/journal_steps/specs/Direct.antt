@@ -19,8 +19,7 @@ use Rattle.journal_steps.specs.Values.{JournalValue}
 abbrev pub MayWriteDirectly : Journal → ℕ → Type 0
 MayWriteDirectly j b = HasDirectRight (transactions j.front) j.engine.committed (finished_count j.front) b
 
--- why a direct write is refused: the device failed before, the block may not be touched, the transactions forbid it, or the device
--- failed in it
+-- why a direct write is refused
 pub data DirectWriteRefused {D : Type 0} (state : D → DeviceState) (old : JournalValue D) (b : ℕ) (v : List ℕ) (new : JournalValue D) : JournalError → Type 0 where
   WriteAborted : old.journal.engine.aborted ≡ true → new ≡ old → DirectWriteRefused state old b v new Aborted
   WriteOutside : old.journal.engine.aborted ≡ false → (MayTouch old.journal.front b → ⊥) → new ≡ old → DirectWriteRefused state old b v new BadBlock
@@ -29,7 +28,7 @@ pub data DirectWriteRefused {D : Type 0} (state : D → DeviceState) (old : Jour
   WriteFailed : Does state old (DirectWriteFault b v) new → (state new.device).faults ≡ one_more_fault (state old.device).faults →
       DirectWriteRefused state old b v new Device
 
--- why a flush of home is refused: the device failed before, or in it
+-- why a flush of home is refused
 pub data DirectSyncRefused {D : Type 0} (state : D → DeviceState) (old new : JournalValue D) : JournalError → Type 0 where
   SyncAborted : old.journal.engine.aborted ≡ true → new ≡ old → DirectSyncRefused state old new Aborted
   SyncFailed : Does state old DirectSyncFault new → (state new.device).faults ≡ one_more_fault (state old.device).faults → DirectSyncRefused state old new Device

@@ -4,8 +4,8 @@ use Rattle.std.specs.List.{AllByRecursion, IsDistinct}
 use Rattle.journal_model.specs.Record.{EachHandleOnce}
 use Rattle.journal_world.specs.Front.{Front, handle_numbers, handles_of, transactions}
 
--- each handle stands once in the transactions, with all its steps in that one; they are the handles given out; the open ones are
--- distinct handles of the running transaction
+-- each handle stands once in the transactions, with all its steps there; these are the handles given out; the open ones are distinct
+-- handles of the running transaction
 pub record KeepsHandles (f : Front) : Type 0 where
   pub each : EachHandleOnce (transactions f)
   pub all : handles_of (transactions f) ≡ handle_numbers f.given

@@ -50,9 +50,9 @@ pub record IsGoodStep (l : Layout) (shape : Shape) (s : HandleStep) : Type 0 whe
   pub whole : IsWhole shape.block_size s.op
   pub allowed : IsAllowedBlock l shape.home_blocks s.block
 
--- Front and engine agree: sealed transactions are the accepted batches, finished and acknowledged ones are the committed ones; the
--- front knows the layouts and whether the device has failed; credits are within the capacity for this log; and its handles are as an
--- audit needs them.
+-- Front and engine agree: sealed transactions are the accepted batches, finished and acknowledged ones the committed ones; the front
+-- knows the layouts and whether the device has failed; credits are within this log's capacity; and its handles are as an audit needs
+-- them.
 pub record Agrees (j : Journal) : Type 0 where
   pub layout : j.front.layout ≡ j.engine.layout
   pub home_blocks : j.front.home_blocks ≡ j.engine.shape.home_blocks
@@ -68,7 +68,7 @@ pub record Agrees (j : Journal) : Type 0 where
   pub credits : held j.front ≤ j.front.capacity
   pub handles : KeepsHandles j.front
 
--- why the front has no copy of the block to hand out: its last entry is a revoke, or memory ran out
+-- why the front has no copy of the block to hand out
 pub data NoCopy (f : Front) (b : ℕ) (e : JournalError) : Type 0 where
   OfRevoke : last_effect b (unfinished f) ≡ Some RevokeEntry → e ≡ Revoked → NoCopy f b e
   OfMemory : (last_effect b (unfinished f) ≡ Some RevokeEntry → ⊥) → e ≡ Memory → NoCopy f b e
@@ -78,16 +78,14 @@ pub data HasCopyKept (j : Journal) (b : ℕ) : Type 0 where
   OfUnfinished : (v : List ℕ) → last_effect b (unfinished j.front) ≡ Some (Copy v) → HasCopyKept j b
   OfPending : (i : ℕ) (v : List ℕ) → IsPending j.engine i b v → HasCopyKept j b
 
--- a read by this handle saw these bytes: the transaction has one more step, and the engine is unchanged; if a copy is kept, so is the
--- device
+-- a read by this handle saw these bytes, which is one more step; the engine is unchanged, and the device too if a copy is kept
 pub record NotesRead {D : Type 0} (state : D → DeviceState) (old : JournalValue D) (h : HandleValue) (b : ℕ) (v : List ℕ) (new : JournalValue D) : Type 0 where
   pub may : MayStep old.journal.front h b
   pub front : new.journal.front ≡ reading_block old.journal.front h.number b v
   pub engine : new.journal.engine ≡ old.journal.engine
   pub kept : HasCopyKept old.journal b → new.device ≡ old.device
 
--- why a read is refused: the handle may make no step on the block; its last entry in the unfinished transactions is a revoke; memory
--- for the step ran out; or no copy is kept, and the device failed
+-- why a read is refused; only a device failure changes the journal
 pub data ReadRefused {D : Type 0} (state : D → DeviceState) (old : JournalValue D) (h : HandleValue) (b : ℕ) (new : JournalValue D) (e : JournalError) : Type 0 where
   ReadKeptOut : IsKeptOut old.journal.front h b e → new ≡ old → ReadRefused state old h b new e
   ReadRevoked : MayStep old.journal.front h b → last_effect b (unfinished old.journal.front) ≡ Some RevokeEntry → new ≡ old → e ≡ Revoked →
@@ -97,14 +95,12 @@ pub data ReadRefused {D : Type 0} (state : D → DeviceState) (old : JournalValu
   ReadFailed : MayStep old.journal.front h b → last_effect b (unfinished old.journal.front) ≡ None → (HasCopyKept old.journal b → ⊥) → Does state old ReadFault new →
       (state new.device).faults ≡ one_more_fault (state old.device).faults → e ≡ Device → ReadRefused state old h b new e
 
--- what the front puts in a buffer: the copy that is the block's last entry in the unfinished transactions; or nothing, if they have
--- none
+-- what the front puts in a buffer: the copy that is the block's last unfinished entry, or nothing if there is none
 abbrev pub HandsOut : Front → ℕ → (buffer : List ℕ) → Bool → List ℕ → Type 0
 HandsOut f b buffer true v = last_effect b (unfinished f) ≡ Some (Copy v)
 HandsOut f b buffer false v = (last_effect b (unfinished f) ≡ None) × (v ≡ buffer)
 
--- a read without a handle saw the bytes that a handle's read would see, and left the journal; if a copy is kept, they are its bytes,
--- and the device is unchanged
+-- a read without a handle saw what a handle's read would see, and left the journal; a kept copy leaves the device too
 pub record ReadsNewest {D : Type 0} (state : D → DeviceState) (honest : D → Type 0) (old : JournalValue D) (b : ℕ) (v : List ℕ) (new : JournalValue D) : Type 0 where
   pub running : old.journal.front.aborted ≡ false
   pub allowed : MayTouch old.journal.front b
@@ -113,8 +109,7 @@ pub record ReadsNewest {D : Type 0} (state : D → DeviceState) (honest : D → 
   pub copied : (w : List ℕ) → last_effect b (unfinished old.journal.front) ≡ Some (Copy w) → (v ≡ w) × (new ≡ old)
   pub pending : last_effect b (unfinished old.journal.front) ≡ None → (i : ℕ) (w : List ℕ) → IsPending old.journal.engine i b w → (v ≡ w) × (new ≡ old)
 
--- why it is refused: the device failed before; the block may not be touched; its last entry in the unfinished transactions is a revoke;
--- or no copy is kept, and the device failed
+-- why a read without a handle is refused; only a device failure changes the journal
 pub data NewestRefused {D : Type 0} (state : D → DeviceState) (old : JournalValue D) (b : ℕ) (new : JournalValue D) (e : JournalError) : Type 0 where
   NewestAborted : old.journal.front.aborted ≡ true → new ≡ old → e ≡ Aborted → NewestRefused state old b new e
   NewestOutside : old.journal.front.aborted ≡ false → (MayTouch old.journal.front b → ⊥) → new ≡ old → e ≡ BadBlock → NewestRefused state old b new e
@@ -162,7 +157,7 @@ pub record FinishesCommit {D : Type 0} (state : D → DeviceState) (tid : ℕ) (
   pub raises : Happens done (state new.device).disk (FrontStep (Raise tid)) new.journal (state new.device).disk
   pub told : new.journal.front.mark ≡ tid
 
--- The device failed in the first step, then the front is told, with nothing between.
+-- The device failed in the first step, then the front is notified, with nothing between.
 pub record FailsAndTells {D : Type 0} (state : D → DeviceState) (fault : Event) (old new : JournalValue D) : Type 0 where
   pub mid : Journal
   pub fails : Happens old.journal (state old.device).disk fault mid (state new.device).disk
@@ -194,7 +189,7 @@ TurnDid state Step old new = StepsCommit state old new
 TurnDid state (Sealed tid) old new = Does state old Seal new × (tid ≡ old.journal.front.running.tid) × FitsQuarter old.journal
 TurnDid state (Committed tid) old new = FinishesCommit state tid old new
 
--- why a commit turn is refused: the device failed before or in it; or a seal is due, and the ring or memory is short
+-- why a commit turn is refused
 pub data TurnRefused {D : Type 0} (state : D → DeviceState) (old new : JournalValue D) : JournalError → Type 0 where
   WasAborted : old.journal.engine.aborted ≡ true → new ≡ old → TurnRefused state old new Aborted
   RingIsShort : SealIsDue old.journal → (HasRoomFor old.journal → ⊥) → new ≡ old → TurnRefused state old new NeedSpace
@@ -216,7 +211,7 @@ CheckTurnDid state StepCheck old new = Does state old CheckpointStep new × (new
 CheckTurnDid state (Released tid) old new =
     Does state old CheckpointStep new × (new.journal.engine.round ≡ NoRound) × (tid + 1 ≡ new.journal.engine.first + new.journal.engine.released)
 
--- why a checkpoint turn is refused: the device failed before or in it
+-- why a checkpoint turn is refused
 pub data CheckTurnRefused {D : Type 0} (state : D → DeviceState) (old new : JournalValue D) : JournalError → Type 0 where
   CheckAborted : old.journal.engine.aborted ≡ true → new.journal ≡ old.journal → Stays (state old.device) (state new.device) →
       (state new.device).faults ≡ (state old.device).faults → CheckTurnRefused state old new Aborted

@@ -1,5 +1,8 @@
 //! The steps that need both front and engine. Each is one step of the machine, or several that nobody sees between; front and engine
-//! agree before and after it. Steps of one part alone are that part's own.
+//! agree before and after it.
+//!
+//! In their errors, `Aborted` means that the device failed in an earlier call, and nothing changes. `Device` means that it failed in
+//! this one, and the journal is then aborted.
 ghost use Rattle.std.specs.Prelude.{◌≡◌, ◌<◌, ◌≢◌, ◌↔◌, List, ℕ, false, length, is_some, option_map, Some, IfOk, IfErr, IfSome, OnOk, IsTrue};
 ghost use Rattle.journal_model.specs.declared.entry.Entry.TheVariants.{Copy, Revoke as RevokeEntry};
 ghost use Rattle.journal_model.specs.declared.refusal.JournalError.TheVariants.{Device as DeviceFailed, Memory, Revoked};
@@ -24,11 +27,11 @@ use journal_front::{Front, Handle, Record};
 use journal_model::{Batch, Block, BlockNo, Entry, JournalError};
 use log_engine::{Engine, Progress};
 
-/// The copy of a block that the front keeps: its last entry in the unfinished transactions, if there is one.
+/// The copy that is a block's last entry in the unfinished transactions, if there is an entry.
 ///
 /// # Errors
 ///
-/// `Revoked`: that entry is a revoke. Else `Memory`.
+/// `Revoked` (the entry is a revoke), `Memory`.
 fn held_copy<R: Record>(front: &Front<R>, block: BlockNo) -> Result<Option<Block>, JournalError>
     ensures ok { IfOk result (λ copy. last_effect block (unfinished front.now) ≡ option_map Copy copy) }
     ensures err { IfErr result (NoCopy front.now block) }
@@ -65,14 +68,13 @@ fn note<R: Record>(
 }
 
 /// Reads one block of the home area by an open handle: the running transaction's copy, else the copy being committed, else what the
-/// engine reads. The read becomes a step of the handle, and takes no credit. A legal record stays legal, whatever it answers.
+/// engine reads. The read becomes a step of the handle, and takes no credit. A legal record stays legal, whatever the answer.
 ///
 /// # Errors
 ///
-/// The buffer stays as it is. The first that applies: `Aborted` after a device failure; `BadBlock` if home has no such block, or its
-/// number is not below 2^32 (2^48 in a log with 64-bit numbers); `NoCredit` if the handle is not open; `Revoked` if the block's last
-/// entry in the uncommitted transactions is a revoke; `Memory` for the step: the journal stays too. `Device`: the device failed, and
-/// the journal is aborted.
+/// The buffer stays, and so does the journal, except after `Device`. The first of: `Aborted`; `BadBlock` (home has no such block, or
+/// its number is not below 2^32, in a log with 64-bit numbers 2^48); `NoCredit` (the handle is not open); `Revoked` (the block's last
+/// uncommitted entry is a revoke); `Memory` (for the step); `Device`.
 pub fn read<D: Device, R: Record>(
     front: &mut Front<R>,
     engine: &mut Engine<D>,
@@ -107,12 +109,11 @@ pub fn read<D: Device, R: Record>(
     note(front, handle, block, Block::new(bytes)?, into)
 }
 
-/// Copies a block's last entry in the unfinished transactions into the buffer, if it is a copy. It answers whether it did; if there is
-/// no entry, the buffer stays.
+/// Copies a block's last entry in the unfinished transactions into the buffer, if it is a copy, and answers whether it did.
 ///
 /// # Errors
 ///
-/// `Revoked`: that entry is a revoke, and the buffer stays.
+/// `Revoked`: the entry is a revoke. The buffer stays.
 /// Source: journalling.rst (handles see the running transaction).
 pub fn hand_out<R: Record>(
     front: &Front<R>,
@@ -133,13 +134,12 @@ pub fn hand_out<R: Record>(
     Ok(true)
 }
 
-/// Reads the bytes that `read` would give, without a handle. It records no step, makes no transaction and takes no memory. A block with
-/// a copy that is not home for good needs no device call; any other needs one.
+/// Reads the bytes that `read` would give, without a handle. It records no step, makes no transaction and takes no memory. Only a block
+/// without a copy, or whose copy is home for good, needs a device call.
 ///
 /// # Errors
 ///
-/// `Aborted`, `BadBlock` and `Revoked` as in `read`: nothing changes. `Device`: the device failed, the journal is aborted, and the
-/// buffer's bytes are unspecified.
+/// `Aborted`, `BadBlock`, `Revoked` as in `read`: nothing changes. `Device`: the buffer's bytes are unspecified.
 pub fn read_newest<D: Device, R: Record>(
     front: &mut Front<R>,
     engine: &mut Engine<D>,
@@ -175,12 +175,11 @@ pub fn read_newest<D: Device, R: Record>(
     Ok(())
 }
 
-/// Takes the next commit step: one device call of a commit, or the seal of a transaction that is locked and has no open handle.
+/// Takes the next commit step: one device call of a commit, or the seal of a transaction that is locked without open handles.
 ///
 /// # Errors
 ///
-/// `Aborted` after an earlier device failure. `NeedSpace`: the ring has too few free blocks for the transaction, and `Memory`: it stays
-/// as it is. `Device`: the device failed, and the journal is aborted.
+/// `Aborted`, `Device`. `NeedSpace` (too few free ring blocks) and `Memory`: the transaction stays as it is.
 /// Source: fs/jbd2/commit.c by behaviour; that each step is one device call is this project's own.
 pub fn commit_turn<D: Device, R: Record>(
     front: &mut Front<R>,
@@ -209,11 +208,11 @@ pub fn commit_turn<D: Device, R: Record>(
     seal(front, engine)
 }
 
-/// Takes one step of the commit under way. After its last one the front records the commit and acknowledges it.
+/// Takes one step of the commit under way. After the last one the front records and acknowledges the commit.
 ///
 /// # Errors
 ///
-/// `Device`: the device failed, and the journal is aborted.
+/// `Device`.
 pub fn commit_step<D: Device, R: Record>(
     front: &mut Front<R>,
     engine: &mut Engine<D>,
@@ -247,11 +246,11 @@ pub fn commit_step<D: Device, R: Record>(
     }
 }
 
-/// Seals the locked transaction, which has no open handle, and hands its entries to the engine.
+/// Seals the locked transaction, and hands its entries to the engine.
 ///
 /// # Errors
 ///
-/// `NeedSpace`: the ring has too few free blocks for it; and `Memory`. Nothing changes.
+/// `NeedSpace` (too few free ring blocks), `Memory`: nothing changes.
 /// Source: fs/jbd2/commit.c by behaviour.
 pub fn seal<D: Device, R: Record>(
     front: &mut Front<R>,
@@ -271,8 +270,8 @@ pub fn seal<D: Device, R: Record>(
     seal_batch(front, engine, batch)
 }
 
-/// The running transaction's entries. It reserves all memory that their seal needs, even while another transaction is being committed.
-/// A seal by them requests no memory, as long as no handle makes a step in between.
+/// The running transaction's entries, with all memory reserved for their seal. A seal by them requests none, even after other commits,
+/// as long as no handle makes a step in between.
 ///
 /// # Errors
 ///
@@ -290,12 +289,11 @@ pub fn ready_batch<D: Device, R: Record>(
     Ok(batch)
 }
 
-/// Seals the locked transaction, which has no open handle and these entries (`ready_batch`), and hands them to the engine.
+/// Seals the locked transaction, which has these entries (`ready_batch`), and hands them to the engine.
 ///
 /// # Errors
 ///
-/// `NeedSpace`: the ring has too few free blocks for it; and `Memory`, which can't occur if room was made for these entries. Nothing
-/// changes.
+/// `NeedSpace` (too few free ring blocks), `Memory` (not after `ready_batch`): nothing changes.
 /// Source: fs/jbd2/commit.c by behaviour.
 pub fn seal_batch<D: Device, R: Record>(
     front: &mut Front<R>,
@@ -322,7 +320,7 @@ pub fn seal_batch<D: Device, R: Record>(
     Ok(Turn::Sealed(tid))
 }
 
-/// Tells callers' proofs that the running transaction needs at most a quarter of the ring, by the credits held. It does nothing.
+/// Tells callers' proofs that the running transaction needs at most a quarter of the ring. It does nothing.
 pub fn recall_quarter<D: Device, R: Record>(front: &Front<R>, engine: &Engine<D>)
     requires agrees { Agrees (together front.now engine.now).journal }
     ensures { FitsQuarter (together front.now engine.now).journal }
@@ -345,7 +343,7 @@ pub fn room_for<D: Device, R: Record>(front: &Front<R>, engine: &Engine<D>) -> O
 ///
 /// # Errors
 ///
-/// `Aborted` after an earlier device failure. `Device`: the device failed, and the journal is aborted.
+/// `Aborted`, `Device`.
 /// Source: fs/jbd2/checkpoint.c by behaviour; that each step is one device call is this project's own.
 pub fn checkpoint_turn<D: Device, R: Record>(
     front: &mut Front<R>,
@@ -378,8 +376,8 @@ pub fn checkpoint_turn<D: Device, R: Record>(
 ///
 /// # Errors
 ///
-/// `Aborted` after an earlier device failure, `BadBlock` as in `read`, `NotDirect` if the transactions have a copy of the block, or an
-/// uncommitted one has an entry of it: nothing changes. `Device`: the device failed, and the journal is aborted.
+/// `Aborted`; `BadBlock` as in `read`; `NotDirect` (the transactions have a copy of the block, or an uncommitted one an entry): nothing
+/// changes. `Device`.
 /// Source: this project's own, by what journal.rst says of revokes.
 pub fn write_direct<D: Device, R: Record>(
     front: &mut Front<R>,
@@ -419,8 +417,7 @@ pub fn write_direct<D: Device, R: Record>(
 ///
 /// # Errors
 ///
-/// `Aborted` after an earlier device failure: nothing changes. `Device`: the device failed, the journal is aborted, and nothing more is
-/// durable.
+/// `Aborted`. `Device`: nothing more is durable.
 /// Source: this project's own; a flush request (the kernel's writeback_cache_control.rst).
 pub fn sync_direct<D: Device, R: Record>(
     front: &mut Front<R>,

@@ -1,7 +1,7 @@
-//! The answers of commit and checkpoint turns: what a turn did.
+//! What a commit or checkpoint turn did.
 use journal_model::Tid;
 
-/// What a commit turn did.
+/// The answer of a commit turn.
 #[derive(Clone, Copy, Debug, PartialEq, Eq)]
 pub enum Turn {
     /// Nothing: the transaction is running.
@@ -16,12 +16,12 @@ pub enum Turn {
     Committed(Tid),
 }
 
-/// What a checkpoint turn did.
+/// The answer of a checkpoint turn.
 #[derive(Clone, Copy, Debug, PartialEq, Eq)]
 pub enum CheckTurn {
     /// Nothing: every committed transaction is released.
     Idle,
-    /// One step of a checkpoint round.
+    /// One step of a round.
     Step,
     /// The last step of a round: the transactions up to this one are released.
     Released(Tid),

@@ -18,13 +18,13 @@ use Rattle.journal_world.proofs.Kept.{HasThose, agrees-kept, home-kept, may-kept
 use Rattle.journal_world.proofs.Positions.{tail-start}
 use Rattle.journal_world.proofs.Texts.{due-of, due-some}
 
--- numbered batches with one more
+-- one more batch keeps the numbering
 numbered-last : (first : ℕ) (bs : List Batch) (b : Batch) → AreNumberedFrom first bs → b.tid ≡ first + length bs →
     AreNumberedFrom first (bs ++ b ∷ [])
 numbered-last first [] b numbered number = (omega arith, tt)
 numbered-last first (x ∷ bs) b numbered number = (numbered.0, numbered-last (suc first) bs b numbered.1 (omega arith))
 
--- what the engine may take
+-- the premises under which the engine takes a batch
 pub record MayTake (e : Engine) (b : Batch) : Type 0 where
   pub number : b.tid ≡ e.first + e.committed
   pub left : b.tid ≤ greatest_number
@@ -35,7 +35,7 @@ pub record MayTake (e : Engine) (b : Batch) : Type 0 where
 abbrev pub taken : Engine → Batch → Stage → Engine
 taken e b stage = record e { accepted = e.accepted ++ b ∷ []; stage = stage }
 
--- the blocks of the batch are due then
+-- then the blocks of the batch are due
 taken-due : (e : Engine) (b : Batch) (stage : Stage) → length e.accepted ≡ e.committed → due_blocks (taken e b stage) ≡ text_blocks (text_of e b)
 taken-due e b stage all = due-of (taken e b stage) b (get-last e.accepted b e.committed all)
 
@@ -43,7 +43,7 @@ taken-due e b stage all = due-of (taken e b stage) b (get-last e.accepted b e.co
 pub taken-one : (e : Engine) (b : Batch) → length e.accepted ≡ e.committed → length (e.accepted ++ b ∷ []) ≡ e.committed + 1
 taken-one e b all = omega (arith, length-append e.accepted (b ∷ []))
 
--- the transactions before it have taken as many blocks as before
+-- the earlier transactions have taken as many blocks as before
 taken-position : (e : Engine) (b : Batch) (stage : Stage) (n : ℕ) → n ≤ length e.accepted → position (taken e b stage) n ≡ position e n
 taken-position e b stage n fits = ap (λ (bs : List Batch). length (texts_blocks (map (text_of e) bs))) (take-append-le n e.accepted (b ∷ []) fits)
 
@@ -60,7 +60,7 @@ taken-laps e b stage plain may =
     ap (λ n. n * e.ring.blocks) (length-append e.accepted (b ∷ [])) in
     omega arith
 
--- it keeps of itself what it kept
+-- the engine with the batch stays plain
 pub taken-plain : (e : Engine) (b : Batch) (stage : Stage) → IsPlain (record e { stage = Idle }) → MayTake e b →
     StageAgrees (taken e b stage) stage → IsPlain (taken e b stage)
 taken-plain e b stage plain may agrees =
@@ -88,13 +88,13 @@ taken-plain e b stage plain may agrees =
       round = agrees-kept (record e { stage = Idle }) (e.accepted ++ b ∷ []) e.committed e.start stage e.aborted e.round plain.round;
     }
 
--- what was behind the committed transactions stays so: none of the new one's blocks is handed to the device
+-- what is held after the committed transactions is still below the due number
 taken-behind : (e : Engine) (b : Batch) (stage : Stage) (k : ℕ) (v : List ℕ) →
     IsBehind (e.first + e.committed) v ⊎ IsOwnBlock (record e { stage = Idle }) k v → IsBehind (e.first + e.committed) v ⊎ IsOwnBlock (taken e b stage) k v
 taken-behind e b stage k v (inl behind) = inl behind
 taken-behind e b stage k v (inr own) = let below = own.handed_over in absurd (omega arith)
 
--- and the durable blocks are those of the same texts
+-- the texts of the committed transactions are the same
 taken-texts : (e : Engine) (b : Batch) (stage : Stage) → length e.accepted ≡ e.committed → committed_texts (taken e b stage) ≡ committed_texts e
 taken-texts e b stage all = ap (map (text_of e)) (take-before e.accepted b e.committed all)
 
@@ -102,13 +102,13 @@ taken-texts e b stage all = ap (map (text_of e)) (take-before e.accepted b e.com
 taken-those : (e : Engine) (b : Batch) → length e.accepted ≡ e.committed → HasThose (record e { stage = Idle }) (e.accepted ++ b ∷ []) e.committed
 taken-those e b all = record { same = λ j below. get-front e.accepted (b ∷ []) j (omega arith); more = omega arith }
 
--- and a crash leaves the same of block 0
+-- a crash leaves the same of block 0
 taken-may : (e : Engine) (b : Batch) (stage : Stage) (v : List ℕ) → MayBeSuperblock (record e { stage = Idle }) v → MayBeSuperblock (taken e b stage) v
 taken-may e b stage v may =
     may-kept (record e { stage = Idle }) (e.accepted ++ b ∷ []) e.committed e.start stage e.aborted v
     (λ clean. ⊎_elim (λ off. inl off) (λ on. cc) clean) may
 
--- the engine with the batch is sound, at a stage that agrees with it
+-- the engine with the batch is sound, if the stage agrees
 taken-sound : (e : Engine) (b : Batch) (stage : Stage) (disk : Disk) → Sound (record e { stage = Idle }) disk → MayTake e b →
     StageAgrees (taken e b stage) stage → StageHolds (taken e b stage) disk stage → Sound (taken e b stage) disk
 taken-sound e b stage disk sound may agrees holds =
@@ -132,7 +132,7 @@ taken-sound e b stage disk sound may agrees holds =
           e.round sound.plain.order.1 refl sound.round;
     }
 
--- the stage of a batch that was just taken depends on whether the superblock says where the log begins
+-- the stage after a batch depends on whether the log is started
 accepts-by : (e : Engine) (started : Bool) (b : Batch) (disk : Disk) → Sound (record e { started = started; stage = Idle }) disk → MayTake e b →
     Sound (accepting (record e { started = started; stage = Idle }) b) disk
 accepts-by e true b disk sound may =

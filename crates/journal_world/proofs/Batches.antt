@@ -1,4 +1,4 @@
--- The batches of an engine: their texts, their numbers, and those of them that stand in front.
+-- The batches of an engine: their texts, their numbers, and the first ones.
 use Rattle.std.proofs.Common.{◌≡◌, ℕ, zero, suc, ◌+◌, ◌≤◌, List, [], ◌∷◌, ◌++◌, length, map, take, Some, true, false, arith, refl, sym, ◌∙◌, subst, ap}
 use Rattle.std.specs.Prelude.{nat_lt, Bool, if◌then◌else◌}
 use Rattle.std.specs.List.{AllByRecursion, slice_get}
@@ -21,7 +21,7 @@ use Rattle.journal_world.proofs.OwnBlocks.{AreOwn, IsOwn, own-is}
 abbrev pub texts_of : Layout → List ℕ → List Batch → List Text
 texts_of l uuid bs = map (λ b. own_text l uuid b.tid b.entries) bs
 
--- the text of a batch of this number is an own text of that number
+-- the text of a batch is an own text of its number
 pub batch-own : (l : Layout) (shape : Shape) (uuid : List ℕ) (sequence : ℕ) (b : Batch) → IsLayout l → length uuid ≡ uuid_bytes →
     IsBatch l shape b → b.tid ≡ sequence → sequence ≤ greatest_number →
     IsOwn l shape.home_blocks sequence (own_text l uuid b.tid b.entries)
@@ -29,7 +29,7 @@ batch-own l shape uuid sequence b layout size is number least =
     subst (λ s. IsOwn l shape.home_blocks s (own_text l uuid b.tid b.entries)) number
     (own-is l uuid shape.home_blocks b.tid b.entries layout size (omega arith) is.allowed)
 
--- so are the texts of batches that are numbered from the sequence on
+-- the texts of batches numbered from the sequence on are own texts
 pub batches-own : (l : Layout) (shape : Shape) (uuid : List ℕ) (sequence : ℕ) (bs : List Batch) → IsLayout l → length uuid ≡ uuid_bytes →
     AllByRecursion (IsBatch l shape) bs → AreNumberedFrom sequence bs → sequence + length bs ≤ greatest_number + 1 →
     AreOwn l shape.home_blocks sequence (texts_of l uuid bs)
@@ -73,7 +73,7 @@ number-at first k [] b are stands = absurd (none-some b stands)
 number-at first zero (c ∷ bs) b are stands = sym (ap (λ (x : Batch). x.tid) (same_Some c b stands)) ∙ are.0 ∙ omega arith
 number-at first (suc k) (c ∷ bs) b are stands = number-at (suc first) k bs b are.1 stands ∙ omega arith
 
--- no transaction is numbered below the first, or below what is before it
+-- no transaction is numbered below the first number, or below an earlier one
 pub none-below : (first end : ℕ) (ts : History) (bs : List Batch) → end ≤ first → AreNumberedFrom first bs → AreBatchesOf ts bs → numbered_below end ts ≡ 0
 none-below first end [] bs least are of = refl
 none-below first end (t ∷ ts) [] least are of = absurd of
@@ -83,7 +83,7 @@ none-below first end (t ∷ ts) (b ∷ bs) least are of =
     let test : nat_lt t.tid end ≡ false = grind (arith, nat_tests) in
     rw test rest
 
--- as many transactions are numbered below a number as it is behind the first
+-- a number n above the first has n transactions below it
 pub count-below : (first n : ℕ) (ts : History) (bs : List Batch) → n ≤ length bs → AreNumberedFrom first bs → AreBatchesOf ts bs →
     numbered_below (first + n) ts ≡ n
 count-below first zero ts bs least are of = none-below first (first + 0) ts bs (omega arith) are of

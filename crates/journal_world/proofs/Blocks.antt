@@ -1,4 +1,4 @@
--- The writes of the blocks of a transaction before its commit block, their flush, and the write of the commit block.
+-- The blocks of a transaction before its commit block, their flush, and the commit block.
 use Rattle.std.proofs.Common.{◌∙◌, ap, arith, inl, inr}
 use Rattle.std.specs.Prelude.{◌≡◌, ℕ, ◌+◌, ◌-◌, ◌<◌, ◌≤◌, nat_lt, Bool, true, false, if◌then◌else◌, length}
 use Rattle.std.proofs.lemmas.Bool.{cases_eq, ltb-true}
@@ -20,11 +20,11 @@ use Rattle.journal_world.proofs.Texts.{due-some}
 abbrev pub due_written : Engine → Disk → ℕ → Disk
 due_written e disk i = written disk Log (ring_place e.ring (e.start + i)) (block_at (due_blocks e) i)
 
--- it is a write of that block
+-- that is a write of that block
 pub due-written : (e : Engine) (disk : Disk) (i : ℕ) → i < length (due_blocks e) → IsDueWrite e disk (due_written e disk i) i
 due-written e disk i within = record { write = is_write-written disk (ring_place e.ring (e.start + i)) (block_at (due_blocks e) i); within = within }
 
--- it is read there
+-- the block is read there then
 due-read : (e : Engine) (disk : Disk) (i : ℕ) → (due_written e disk i Log (ring_place e.ring (e.start + i))).reads ≡ block_at (due_blocks e) i
 due-read e disk i = ap (λ (c : Cell). c.reads) (written-there disk (ring_place e.ring (e.start + i)) (block_at (due_blocks e) i))
 
@@ -48,14 +48,14 @@ blocks-read e a disk k j sound more below =
           ∙ sound.stage j (omega arith)
     ]
 
--- the engine stays sound over the write of one before the commit block
+-- the engine stays sound over the write of a block before the commit block
 block-sound : (e : Engine) (a : Bool) (disk : Disk) (k : ℕ) → Sound (at e (Blocks k) a) disk → k + 1 < length (due_blocks e) →
     Sound (at e (Blocks (k + 1)) a) (due_written e disk k)
 block-sound e a disk k sound more =
     due-sound e (Blocks k) (Blocks (k + 1)) a a disk (due_written e disk k) k sound (due-written (at e (Blocks k) a) disk k (omega arith))
     (omega arith) (omega arith) (λ flush. cc) (sound.plain.stage.0, sound.plain.stage.1, more) (λ j below. blocks-read e a disk k j sound more below)
 
--- where it fails too
+-- the engine stays sound if that write fails
 pub block-fails : (e : Engine) (a b : Bool) (disk after : Disk) (k : ℕ) → Sound (at e (Blocks k) a) disk → k + 1 < length (due_blocks e) →
     IsDueWrite (at e (Blocks k) a) disk after k → Sound (at e (Blocks k) b) after
 block-fails e a b disk after k sound more due =
@@ -64,7 +64,7 @@ block-fails e a b disk after k sound more due =
     (λ j below. ap (λ (c : Cell). c.reads) (due-apart (at e (Blocks k) a) disk after k j sound.plain due (omega arith) (λ same. omega arith))
     ∙ sound.stage j below)
 
--- and over the flush of all of these
+-- the engine stays sound over the flush of these blocks
 all-flushed : (e : Engine) (a : Bool) (disk : Disk) (k : ℕ) → Sound (at e (Blocks k) a) disk → length (due_blocks e) ≤ k + 1 →
     Sound (at e CommitWrite a) (flushed disk Log)
 all-flushed e a disk k sound last =
@@ -74,7 +74,7 @@ all-flushed e a disk k sound last =
     (sound.plain.stage.0, sound.plain.stage.1)
     (λ j below. read-flushed e disk (e.start + j) (block_at (due_blocks e) j) (sound.stage j (omega arith)))
 
--- whichever of the two is due
+-- the engine stays sound, whichever of the two is due
 pub blocks-sound : (e : Engine) (a : Bool) (disk : Disk) (k : ℕ) (b : Bool) → Sound (at e (Blocks k) a) disk →
     nat_lt (k + 1) (length (due_blocks e)) ≡ b →
     Sound (at e (if b then Blocks (k + 1) else CommitWrite) a) (after_success (if b then write_block e k else Flush Log) disk)
@@ -88,7 +88,7 @@ commit-durable : (e : Engine) (a : Bool) (disk after : Disk) (j : ℕ) → Sound
 commit-durable e a disk after j sound due below =
     due-apart (at e CommitWrite a) disk after (length (due_blocks e) - 1) j sound.plain due (omega arith) (λ same. omega arith) ∙ sound.stage j below
 
--- the engine stays sound over it
+-- the engine stays sound over the write of the commit block
 pub commit-sound : (e : Engine) (a : Bool) (disk : Disk) → Sound (at e CommitWrite a) disk →
     Sound (at e CommitFlush a) (due_written e disk (length (due_blocks e) - 1))
 commit-sound e a disk sound =
@@ -98,7 +98,7 @@ commit-sound e a disk sound =
     due-sound e CommitWrite CommitFlush a a disk (due_written e disk i) i sound due (omega arith) (omega arith) (λ flush. cc) sound.plain.stage
     (λ j below. commit-durable e a disk (due_written e disk i) j sound due below, due-read e disk i)
 
--- where it fails too
+-- the engine stays sound if that write fails
 pub commit-fails : (e : Engine) (a b : Bool) (disk after : Disk) → Sound (at e CommitWrite a) disk →
     IsDueWrite (at e CommitWrite a) disk after (length (due_blocks e) - 1) → Sound (at e CommitWrite b) after
 commit-fails e a b disk after sound due =

@@ -1,4 +1,4 @@
--- A log that begins with texts, behind which no block is due, has these texts as its chain, and no damage.
+-- Texts followed by no due block are the chain of a log, without damage.
 use Rattle.std.proofs.Common.{◌≡◌, ℕ, ◌+◌, ◌<◌, List, [], ◌∷◌, ◌++◌, length, refl, sym, ◌∙◌, subst, append_assoc}
 use Rattle.std.specs.List.{AllByRecursion}
 use Rattle.std.proofs.lemmas.List.{append_cancel_left}
@@ -9,12 +9,12 @@ use Rattle.log_model.specs.ReadingLog.{NoTextBegins}
 use Rattle.log_model.specs.Text.{IsCommitBlock, pieces_blocks}
 use Rattle.log_model.proofs.ReadingTexts.{most_texts, one_chain_of}
 
--- the block is no commit block of this number, nor a malformed block of it
+-- neither a commit block of this number, nor a malformed block of it
 pub record IsNotDue (l : Layout) (count next : ℕ) (block : List ℕ) : Type 0 where
   pub no_commit : IsCommitBlock next block → ⊥
   pub no_damage : IsMalformed l count next block → ⊥
 
--- what holds of each element of joined lists holds of the one behind a front
+-- a fact of each element of joined lists holds of the one after a front
 behind-front : {X : Type 0} (P : X → Type 0) (xs : List X) (y : X) (ys : List X) → AllByRecursion P (xs ++ y ∷ ys) → P y
 behind-front P [] y ys all = all.0
 behind-front P (x ∷ xs) y ys all = behind-front P xs y ys all.1
@@ -31,7 +31,7 @@ module _ (l : Layout) (count : ℕ) where
             due.no_commit is.commit;
       }
 
-  -- the texts in front of blocks of which none is due are the chain
+  -- texts followed by blocks of which none is due are the chain
   pub chain-of : (sequence : ℕ) (blocks : List (List ℕ)) (ts : List Text) (rest : List (List ℕ)) → 0 < l.number_bytes →
       blocks ≡ texts_blocks ts ++ rest → AreTexts l count sequence ts → AllByRecursion (IsNotDue l count (sequence + length ts)) rest →
       IsChain l count sequence blocks ts
@@ -43,7 +43,7 @@ module _ (l : Layout) (count : ℕ) where
             (no-text-due (sequence + length ts) rest all) (sym split ∙ b.split);
       }
 
-  -- and there is no damage behind it
+  -- no damage follows them
   pub no-damage : (sequence : ℕ) (blocks : List (List ℕ)) (ts : List Text) (rest : List (List ℕ)) → 0 < l.number_bytes →
       blocks ≡ texts_blocks ts ++ rest → AreTexts l count sequence ts → AllByRecursion (IsNotDue l count (sequence + length ts)) rest →
       (k : ℕ) → IsDamaged l count sequence blocks k → ⊥

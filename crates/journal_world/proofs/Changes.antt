@@ -1,4 +1,4 @@
--- An engine whose stage changes stays sound where the disk changes by a write of one block that is due, or by a flush.
+-- A new stage keeps the engine sound if a due block is written, or the log flushed.
 use Rattle.std.proofs.Common.{refl, sym, ◌∙◌, ap, subst, arith, inl, inr, ⊎_elim}
 use Rattle.std.specs.Prelude.{◌≡◌, ◌⊎◌, ℕ, ◌+◌, ◌<◌, ◌≤◌, Bool, List, length, Some}
 use Rattle.journal_model.specs.declared.number.Area.TheVariants.{Log}
@@ -23,7 +23,7 @@ at e stage aborted = record e { stage = stage; aborted = aborted }
 pub ring-first : (e : Engine) → IsPlain e → 0 < e.ring.first
 ring-first e plain = first-above e.shape e.ring e.superblock (names-superblock e e.started e.superblock plain.names)
 
--- it keeps of itself what it kept at another stage
+-- the engine stays plain at another stage
 pub plain-at : (e : Engine) (old new : Stage) (a b : Bool) → IsPlain (at e old a) → StageAgrees (at e new b) new → IsPlain (at e new b)
 plain-at e old new a b plain agrees = record {
   names = names-kept (at e old a) e.accepted e.committed e.start new b e.started e.superblock plain.names;
@@ -42,12 +42,12 @@ plain-at e old new a b plain agrees = record {
   round = agrees-kept (at e old a) e.accepted e.committed e.start new b e.round plain.round;
 }
 
--- block 0 may be that of a clean log no more than before, behind the flush of the superblock
+-- if block 0 may be a clean log's, so it may before the superblock's flush
 clean-at : (e : Engine) (old new : Stage) (a b : Bool) → (old ≡ SuperblockFlush → new ≡ SuperblockFlush) → MayBeClean (at e old a) → MayBeClean (at e new b)
 clean-at e old new a b flush (inl off) = inl off
 clean-at e old new a b flush (inr on) = inr (flush on)
 
--- what a crash leaves of block 0 is what it would have left at another stage
+-- a crash leaves of block 0 what it would have left at another stage
 pub may-at : (e : Engine) (old new : Stage) (a b : Bool) (v : List ℕ) → (old ≡ SuperblockFlush → new ≡ SuperblockFlush) →
     MayBeSuperblock (at e old a) v → MayBeSuperblock (at e new b) v
 may-at e old new a b v flush may = may-kept (at e old a) e.accepted e.committed e.start new b v (clean-at e old new a b flush) may
@@ -56,7 +56,7 @@ may-at e old new a b v flush may = may-kept (at e old a) e.accepted e.committed 
 pub those-at : (e : Engine) → HasThose e e.accepted e.committed
 those-at e = record { same = λ j below. refl; more = omega arith }
 
--- what is durable at home stays so, where no step writes there
+-- what is durable at home stays so, if no step writes there
 pub home-at : (e : Engine) (old new : Stage) (a b : Bool) (disk after : Disk) → Sound (at e old a) disk → KeepsHome disk after →
     HomeHas (at e new b) after e.released
 home-at e old new a b disk after sound home =
@@ -64,7 +64,7 @@ home-at e old new a b disk after sound home =
     let above : e.bound ≤ e.committed = sound.plain.order.1 in
     home-kept (at e old a) e.accepted e.committed e.start new b (those-at (at e old a)) disk after home e.released (omega arith) sound.home
 
--- and what a round has done, where the superblock is read as it was
+-- what a round has done stays done, if the superblock reads as before
 pub round-at : (e : Engine) (old new : Stage) (a b : Bool) (disk after : Disk) → Sound (at e old a) disk → KeepsHome disk after →
     (after Log 0).reads ≡ (disk Log 0).reads → RoundHolds (at e new b) after e.round
 round-at e old new a b disk after sound home reads =
@@ -81,19 +81,19 @@ own-later e old new a b k v more own = record {
   handed_over = let below : own.index < handed old (length (due_blocks e)) = own.handed_over in omega arith;
 }
 
--- so what may be held behind the committed transactions may be held at a later stage
+-- what is held after the committed transactions may be held at a later stage
 pub behind-later : (e : Engine) (old new : Stage) (a b : Bool) (k : ℕ) (v : List ℕ) →
     handed old (length (due_blocks e)) ≤ handed new (length (due_blocks e)) →
     IsBehind (e.first + e.committed) v ⊎ IsOwnBlock (at e old a) k v → IsBehind (e.first + e.committed) v ⊎ IsOwnBlock (at e new b) k v
 behind-later e old new a b k v more (inl behind) = inl behind
 behind-later e old new a b k v more (inr own) = inr (own-later e old new a b k v more own)
 
--- the write of block i of those that are due, which may have failed
+-- a write of due block i, which may have failed
 pub record IsDueWrite (e : Engine) (old new : Disk) (i : ℕ) : Type 0 where
   pub write : IsWrite old new (ring_place e.ring (e.start + i)) (block_at (due_blocks e) i)
   pub within : i < length (due_blocks e)
 
--- it stands on the lap from the tail on
+-- the due block stands on the lap from the tail on
 due-within : (e : Engine) (i k : ℕ) → IsPlain e → i < length (due_blocks e) → e.tail ≤ k → k < e.tail + e.ring.blocks →
     ring_place e.ring k ≡ ring_place e.ring (e.start + i) → k ≡ e.start + i
 due-within e i k plain within low high same =
@@ -101,17 +101,17 @@ due-within e i k plain within low high same =
     let order : e.tail ≤ e.start = tail-start e plain in
     one_within e.ring e.tail k (e.start + i) low high (omega arith) (omega arith) same
 
--- and leaves each other position of that lap as it was
+-- the write leaves each other position of that lap as it was
 pub due-other : (e : Engine) (old new : Disk) (i k : ℕ) → IsPlain e → IsDueWrite e old new i → e.tail ≤ k → k < e.tail + e.ring.blocks →
     (k ≡ e.start + i → ⊥) → new Log (ring_place e.ring k) ≡ old Log (ring_place e.ring k)
 due-other e old new i k plain due low high other =
     due.write.others (ring_place e.ring k) (λ same. other (due-within e i k plain due.within low high same))
 
--- and the superblock
+-- the write leaves the superblock as it was
 pub due-superblock : (e : Engine) (old new : Disk) (i : ℕ) → IsPlain e → IsDueWrite e old new i → new Log 0 ≡ old Log 0
 due-superblock e old new i plain due = due.write.others 0 (λ same. place-above e.ring (e.start + i) (ring-first e plain) (sym same))
 
--- what it leaves durable
+-- durable committed blocks stay durable over the write
 due-durable : (e : Engine) (old new : Disk) (i k : ℕ) (v : List ℕ) → IsPlain e → IsDueWrite e old new i → e.tail ≤ k → k < e.start →
     IsDurable e old k v → IsDurable e new k v
 due-durable e old new i k v plain due low below durable =
@@ -123,7 +123,8 @@ due-own : (e : Engine) (i k : ℕ) (w : List ℕ) → k ≡ e.start + i → w �
     i < handed e.stage (length (due_blocks e)) → IsOwnBlock e k w
 due-own e i k w place is within now = record { index = i; place = place; block = block-there (due_blocks e) i within ∙ ap Some (sym is); handed_over = now }
 
--- what it leaves held behind the committed transactions
+-- after the write, what is held after the committed transactions is below the due number, or an own
+-- block
 due-behind : (e : Engine) (old new : Stage) (a b : Bool) (disk after : Disk) (i k : ℕ) (w : List ℕ) → Sound (at e old a) disk →
     IsDueWrite (at e old a) disk after i →
     i < handed new (length (due_blocks e)) → handed old (length (due_blocks e)) ≤ handed new (length (due_blocks e)) →
@@ -163,7 +164,7 @@ held-before_flush disk m w (inr none) = absurd none
 pub durable-flushed : (e : Engine) (disk : Disk) (k : ℕ) (v : List ℕ) → IsDurable e disk k v → IsDurable e (flushed disk Log) k v
 durable-flushed e disk k v durable = ap (λ (c : Cell). durable_cell c.reads) durable
 
--- and what is read becomes durable
+-- what is read becomes durable at a flush
 pub read-flushed : (e : Engine) (disk : Disk) (k : ℕ) (v : List ℕ) → (disk Log (ring_place e.ring k)).reads ≡ v → IsDurable e (flushed disk Log) k v
 read-flushed e disk k v reads = ap durable_cell reads
 

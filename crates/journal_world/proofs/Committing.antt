@@ -17,7 +17,7 @@ use Rattle.journal_world.proofs.Texts.{block-behind, block-front, committed-more
 abbrev pub done : Engine → Bool → Engine
 done e a = stepped_from (at e CommitFlush a) CommitFlush
 
--- as many blocks are taken then as its transactions have
+-- its start is the position of one more transaction
 done-start : (e : Engine) (a : Bool) → IsPlain (at e CommitFlush a) → e.start + length (due_blocks e) ≡ position e (e.committed + 1)
 done-start e a plain =
     let one : length e.accepted ≡ e.committed + 1 = plain.stage.0 in
@@ -25,7 +25,7 @@ done-start e a plain =
     let sum = length-append (texts_blocks (committed_texts e)) (due_blocks e) in
     ap (λ n. n + length (due_blocks e)) start ∙ sym sum ∙ ap length (sym (committed-more e (omega arith)))
 
--- it keeps of itself what it kept
+-- it stays plain
 pub done-plain : (e : Engine) (a : Bool) → IsPlain (at e CommitFlush a) → IsPlain (done e a)
 done-plain e a plain =
     let one : length e.accepted ≡ e.committed + 1 = plain.stage.0 in
@@ -54,7 +54,7 @@ done-plain e a plain =
       round = agrees-kept (at e CommitFlush a) e.accepted (e.committed + 1) (e.start + length (due_blocks e)) Idle a e.round plain.round;
     }
 
--- each of its blocks is durable
+-- each block of the new transaction is durable
 own-durable : (e : Engine) (a : Bool) (disk : Disk) (j : ℕ) → Sound (at e CommitFlush a) disk → j < length (due_blocks e) →
     IsDurable e (flushed disk Log) (e.start + j) (block_at (due_blocks e) j)
 own-durable e a disk j sound below =
@@ -66,7 +66,7 @@ own-durable e a disk j sound below =
           (subst (λ (i : ℕ). (disk Log (ring_place e.ring (e.start + i))).reads ≡ block_at (due_blocks e) i) same sound.stage.1)
     ]
 
--- and so is each block of all the committed ones
+-- each block of all committed transactions is durable
 all-durable : (e : Engine) (a : Bool) (disk : Disk) (k : ℕ) → Sound (at e CommitFlush a) disk → e.tail ≤ k → k < e.start + length (due_blocks e) →
     IsDurable e (flushed disk Log) k (block_at (texts_blocks (committed_texts e) ++ due_blocks e) k)
 all-durable e a disk k sound low below =
@@ -82,7 +82,7 @@ all-durable e a disk k sound low below =
           (own-durable e a disk (k - e.start) sound (omega arith)))
     ]
 
--- behind its blocks nothing is held but what was behind the ones before
+-- nothing held after the new transaction's blocks could be taken for the next one
 done-behind : (e : Engine) (a : Bool) (k : ℕ) (v : List ℕ) → e.start + length (due_blocks e) ≤ k →
     IsBehind (e.first + e.committed) v ⊎ IsOwnBlock (at e CommitFlush a) k v → IsBehind (e.first + (e.committed + 1)) v
 done-behind e a k v low (inl behind) = record { below = λ magic. let below = behind.below magic in omega arith }
@@ -91,11 +91,11 @@ done-behind e a k v low (inr own) =
     let below : own.index < length (due_blocks e) = own.handed_over in
     absurd (omega arith)
 
--- the transactions that were committed are so still
+-- the committed transactions are still the same
 done-those : (e : Engine) (a : Bool) → HasThose (at e CommitFlush a) e.accepted (e.committed + 1)
 done-those e a = record { same = λ j below. refl; more = omega arith }
 
--- what a crash leaves of block 0 is what it would have left before
+-- a crash leaves the same of block 0
 done-may : (e : Engine) (a : Bool) (v : List ℕ) → MayBeSuperblock (at e CommitFlush a) v → MayBeSuperblock (done e a) v
 done-may e a v may =
     may-kept (at e CommitFlush a) e.accepted (e.committed + 1) (e.start + length (due_blocks e)) Idle a v

@@ -1,4 +1,4 @@
--- The writes of a round's copies home, and the flush behind them: the engine stays sound, whether they succeed or fail.
+-- The engine stays sound over the writes of a round's copies home and their flush, also failed ones.
 use Rattle.std.proofs.Common.{refl, sym, ◌∙◌, ap, subst, arith, inl, inr}
 use Rattle.std.specs.Prelude.{◌≡◌, ℕ, ◌+◌, ◌<◌, ◌≤◌, ◌==◌, ◌&&◌, Bool, true, false, if◌then◌else◌, List}
 use Rattle.std.proofs.lemmas.Bool.{cases_eq, cases_lt}
@@ -18,7 +18,7 @@ use Rattle.journal_world.proofs.Pending.{newest-bytes, newest-of, newest-one, pe
 use Rattle.journal_world.proofs.Rounded.{IsRoundChange, cell-kept, rounded-sound}
 use Rattle.journal_world.proofs.Rounds.{going, going-change, home-kept, may-kept, none-moved, some-committed}
 
--- a write of home block b, which may have failed: no other block of the disk changed
+-- a write of home block b, which may have failed, changes no other block
 pub record IsHomeWrite (old new : Disk) (b : ℕ) : Type 0 where
   pub log : (n : ℕ) → new Log n ≡ old Log n
   pub others : (m : ℕ) → (m ≡ b → ⊥) → new Home m ≡ old Home m
@@ -27,7 +27,7 @@ pub record IsHomeWrite (old new : Disk) (b : ℕ) : Type 0 where
 pub put-other : (b m : ℕ) (x y : Cell) → (m ≡ b → ⊥) → (if true && (m == b) then x else y) ≡ y
 put-other b m x y other = let apart : (m == b) ≡ false = grind (arith, nat_tests) in rw apart
 
--- and there it stands
+-- what is put at a block stands there
 pub put-there : (b m : ℕ) (x y : Cell) → m ≡ b → (if true && (m == b) then x else y) ≡ x
 put-there b m x y there = let same : (m == b) ≡ true = grind (arith, nat_tests) in rw same
 
@@ -35,7 +35,7 @@ put-there b m x y there = let same : (m == b) ≡ true = grind (arith, nat_tests
 pub home-written : (disk : Disk) (b : ℕ) (v : List ℕ) → IsHomeWrite disk (written disk Home b v) b
 home-written disk b v = record { log = λ n. refl; others = λ m other. put-other b m _ (disk Home m) other }
 
--- what a call changes of an engine among the round's copies that goes on to more of them, or to the superblock
+-- the engine's change when a round goes on among its copies, or to the superblock
 pub copies-change : (e : Engine) (transaction block : ℕ) (new : Round) (a : Bool) → IsPlain e → e.round ≡ Copies transaction block →
     (NamesTail e e.superblock → NamesStarted (going e new a) new e.superblock) → (e.released < e.bound → RoundAgrees (going e new a) new) →
     IsRoundChange e (going e new a)
@@ -43,7 +43,7 @@ copies-change e transaction block new a plain at names agrees =
     let more : e.released < e.bound = subst (RoundAgrees e) at plain.round in
     going-change e (Copies transaction block) new a plain (some-committed e plain more) at names (agrees more)
 
--- the engine stays sound over the write of a pending copy, where what the round has done at home is known
+-- the engine stays sound over the write of a pending copy
 pub copy-sound : (e : Engine) (disk after : Disk) (transaction block i b : ℕ) (v : List ℕ) (next place : ℕ) (a : Bool) → Sound e disk →
     e.round ≡ Copies transaction block → IsPending e i b v → IsHomeWrite disk after b →
     RoundHolds (going e (Copies next place) a) after (Copies next place) → Sound (going e (Copies next place) a) after
@@ -72,7 +72,7 @@ copy-sound e disk after transaction block i b v next place a sound at pending wr
       round = holds;
     })
 
--- a copy behind block b of transaction i that is not of that block is behind it too once the block is written
+-- a copy of another block, from (i, b) on, is still to come once b is written
 behind-next : (i b j c : ℕ) → (c ≡ b → ⊥) → IsFrom i b j c → IsFrom i (b + 1) j c
 behind-next i b j c other (inl later) = inl later
 behind-next i b j c other (inr here) =
@@ -85,7 +85,7 @@ behind-next i b j c other (inr here) =
       ],
     )
 
--- one of another block that the round has written before is none that it has still to write
+-- a copy of another block written earlier is not still to be written
 before-next : (e : Engine) (transaction block i b j c : ℕ) (v w : List ℕ) → IsNextCopy e transaction block i b v → IsPending e j c w → j < e.bound →
     (c ≡ b → ⊥) → (IsFrom i (b + 1) j c → ⊥) → IsFrom transaction block j c → ⊥
 before-next e transaction block i b j c v w next pending due other before from =
@@ -107,7 +107,7 @@ copied-holds e disk transaction block i b v sound at next j c w pending due befo
           ∙ held j c w was due (before-next e transaction block i b j c v w next was due other before)
     ]
 
--- where the write fails, those that were written before are read as they were
+-- if the write fails, the copies written earlier read as they did
 uncopied-holds : (e : Engine) (disk after : Disk) (transaction block i b : ℕ) (v : List ℕ) (a : Bool) → Sound e disk → e.round ≡ Copies transaction block →
     IsUnwritten e transaction block i b v → IsHomeWrite disk after b → RoundHolds (going e (Copies transaction block) a) after (Copies transaction block)
 uncopied-holds e disk after transaction block i b v a sound at unwritten write j c w pending due before =
@@ -120,14 +120,14 @@ uncopied-holds e disk after transaction block i b v a sound at unwritten write j
     before (subst (λ n. IsFrom transaction block n c) one (subst (λ d. IsFrom transaction block i d) (sym same) unwritten.from)) in
     ap (λ (x : Cell). x.reads) (write.others c other) ∙ held j c w was due before
 
--- the write of the next copy succeeds
+-- the engine stays sound over the write of the next copy
 pub copied-sound : (e : Engine) (disk : Disk) (transaction block i b : ℕ) (v : List ℕ) → Sound e disk → e.round ≡ Copies transaction block →
     IsNextCopy e transaction block i b v → Sound (going e (Copies i (b + 1)) e.aborted) (written disk Home b v)
 copied-sound e disk transaction block i b v sound at next =
     copy-sound e disk (written disk Home b v) transaction block i b v i (b + 1) e.aborted sound at next.unwritten.pending (home-written disk b v)
     (copied-holds e disk transaction block i b v sound at next)
 
--- each write at home that failed is one
+-- a failed write at home is a home write
 pub home-fault : (old new : Disk) (b : ℕ) (v : List ℕ) → IsAfterFault (Write Home b v) old new → IsHomeWrite old new b
 home-fault old new b v (Undone call x y same) =
     subst (λ (d : Disk). IsHomeWrite old d b) (sym same) (record { log = λ n. refl; others = λ m other. refl })
@@ -136,7 +136,7 @@ home-fault old new b v (HandedOver a m w x y same) =
     subst (λ (d : Disk). IsHomeWrite old d b) (sym same)
     (record { log = λ n. refl; others = λ m other. put-other b m _ (old Home m) other })
 
--- the write of the next copy fails
+-- the engine stays sound if the write of the next copy fails
 pub copy-fails : (e : Engine) (disk after : Disk) (transaction block i b : ℕ) (v : List ℕ) (a : Bool) → Sound e disk → e.round ≡ Copies transaction block →
     IsNextCopy e transaction block i b v → IsAfterFault (Write Home b v) disk after → Sound (going e (Copies transaction block) a) after
 copy-fails e disk after transaction block i b v a sound at next fault =
@@ -144,7 +144,7 @@ copy-fails e disk after transaction block i b v a sound at next fault =
     copy-sound e disk after transaction block i b v transaction block a sound at next.unwritten.pending write
     (uncopied-holds e disk after transaction block i b v a sound at next.unwritten write)
 
--- no copy is left to be written: with home flushed, all of the round's are durable there
+-- once no copy is left and home is flushed, all the round's copies are durable there
 all-durable : (e : Engine) (disk : Disk) (transaction block : ℕ) → Sound e disk → e.round ≡ Copies transaction block →
     ((i b : ℕ) (v : List ℕ) → IsUnwritten e transaction block i b v → ⊥) → HomeHas e (flushed disk Home) e.bound
 all-durable e disk transaction block sound at none i b v newest below =
@@ -156,7 +156,7 @@ all-durable e disk transaction block sound at none i b v newest below =
           ap durable_cell (held i b v pending below (λ from. none i b v (record { pending = pending; due = below; from = from })))
     ]
 
--- the flush of home succeeds
+-- the engine stays sound over the flush of home
 pub home_flush-sound : (e : Engine) (disk : Disk) (transaction block : ℕ) → Sound e disk → e.round ≡ Copies transaction block →
     ((i b : ℕ) (v : List ℕ) → IsUnwritten e transaction block i b v → ⊥) → Sound (going e TailWrite e.aborted) (flushed disk Home)
 home_flush-sound e disk transaction block sound at none =

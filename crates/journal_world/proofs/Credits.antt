@@ -1,4 +1,4 @@
--- How many credits are held after each event of a front and of a journal, and how many the credit word has.
+-- The credits held, and the credit word, after each event of a front and of a journal.
 use Rattle.std.proofs.Common.{refl, sym, ap, subst, ◌∙◌, arith, inl, inr}
 use Rattle.std.specs.Prelude.{◌≡◌, ℕ, ◌+◌, ◌-◌, ◌<◌, ◌≤◌, if◌then◌else◌, List, [], ◌∷◌, ◌++◌, length, map, sum, is_some, Option, Some, None}
 use Rattle.std.proofs.lemmas.List.{length-map, length_push}
@@ -20,7 +20,7 @@ use Rattle.journal_world.specs.Journal.Event.{FrontStep, Seal, CommitStep, Commi
 use Rattle.journal_world.specs.Front.FrontEvent.{Reserve, RefuseReserve, TakeBack, GiveBack, LoadCredits, LoadMark, Join, ExtendHandle, WriteBlock, RevokeBlock, StopHandle, Lock, Raise}
 use Rattle.journal_world.proofs.OpenHandles.{left-among, left-without}
 
--- a touch takes a credit of the handle for the entry that it adds, or none
+-- a touch takes a credit for the entry that it adds, or none
 touched-credits : (f : Front) (left : ℕ) (s : Step) (e : Entry) → entry_of s.op ≡ Some e → (effect s.block f.running.steps ≡ None → 0 < left) →
     left_after f s.block left + length (entries (f.running.steps ++ s ∷ [])) ≡ left + length (entries f.running.steps)
 touched-credits f left s e leaves credit =
@@ -39,19 +39,19 @@ touched-credits f left s e leaves credit =
           omega arith
     ]
 
--- credits are granted
+-- a granted reserve adds its credits
 reserved-credits : (old new : Front) (n : ℕ) → Reserves old n new → held new ≡ held old + n
 reserved-credits old new n step =
     let same : held new ≡ held (reserving old n) = ap (λ (f : Front). held f) step.after in omega arith
 
--- credits come back
+-- credits given back are no longer held
 given-credits : (old new : Front) (n : ℕ) → GivesBack old n new → held new + n ≡ held old
 given-credits old new n step =
     let same : held new ≡ held (giving_back old n) = ap (λ (f : Front). held f) step.after in
     let granted : n ≤ old.reserved = step.granted in
     omega arith
 
--- a handle joins
+-- a join keeps the credits held
 joined-credits : (old new : Front) (n : ℕ) → Joins old n new → held new ≡ held old
 joined-credits old new n step =
     let same : held new ≡ held (joining old n) = ap (λ (f : Front). held f) step.after in
@@ -59,7 +59,7 @@ joined-credits old new n step =
     let granted : n ≤ old.reserved = step.credits in
     omega arith
 
--- a handle gets further credits
+-- more credits of a handle keep the credits held
 extended-credits : (old new : Front) (h n : ℕ) → ExtendsHandle old h n new → held new ≡ held old
 extended-credits old new h n step =
     let handle : IsOpen old h = step.handle in
@@ -70,7 +70,7 @@ extended-credits old new h n step =
     let granted : n ≤ old.reserved = step.credits in
     omega arith
 
--- a handle touches a block
+-- a touch keeps the credits held
 touch-credits : (old new : Front) (h b : ℕ) (op : Op) (e : Entry) (handle : IsOpen old h) → entry_of op ≡ Some e → (IsFirstTouch old b → 0 < handle.left) →
     new ≡ touching old h b op handle → held new ≡ held old
 touch-credits old new h b op e handle leaves credit after =
@@ -81,15 +81,15 @@ touch-credits old new h b op e handle leaves credit after =
     let taken = touched-credits old handle.left (record { handle = h; block = b; op = op }) e leaves credit in
     omega arith
 
--- it writes it
+-- a write keeps the credits held
 write-credits : (old new : Front) (h b : ℕ) (v : List ℕ) → WritesBlock old h b v new → held new ≡ held old
 write-credits old new h b v step = touch-credits old new h b (Write v) (Copy v) step.handle refl step.credit step.after
 
--- or revokes it
+-- a revoke keeps the credits held
 revoke-credits : (old new : Front) (h b : ℕ) → RevokesBlock old h b new → held new ≡ held old
 revoke-credits old new h b step = touch-credits old new h b RevokeOp Revoke step.handle refl step.credit step.after
 
--- a handle stops
+-- a stopped handle's credits are no longer held
 pub stopped-credits : (old new : Front) (h : ℕ) (step : StopsHandle old h new) → held new + step.handle.left ≡ held old
 stopped-credits old new h step =
     let handle : IsOpen old h = step.handle in
@@ -99,7 +99,7 @@ stopped-credits old new h step =
     let now = left-without handle.before handle.behind in
     omega arith
 
--- after each event
+-- the credits held after each event of a front
 pub event-held : (old new : Front) (event : FrontEvent) → FrontHappens old event new → HeldAfter old event (held new)
 event-held old new (Reserve n) step = reserved-credits old new n step
 event-held old new (RefuseReserve n) step = ap (λ (f : Front). held f) step.after
@@ -115,7 +115,7 @@ event-held old new (StopHandle h) step = (step.handle, stopped-credits old new h
 event-held old new Lock step = ap (λ (f : Front). held f) step.after
 event-held old new (Raise t) step = ap (λ (f : Front). held f) step.after
 
--- how many refused reserves have not taken back after each event
+-- the credits of refused reserves after each event
 pub event-refused : (old new : Front) (event : FrontEvent) → FrontHappens old event new → RefusedAfter old event new.refused
 event-refused old new (Reserve n) step = ap (λ (f : Front). f.refused) step.after
 event-refused old new (RefuseReserve n) step = ap (λ (f : Front). f.refused) step.after
@@ -134,7 +134,7 @@ event-refused old new (StopHandle h) step = ap (λ (f : Front). f.refused) step.
 event-refused old new Lock step = ap (λ (f : Front). f.refused) step.after
 event-refused old new (Raise t) step = ap (λ (f : Front). f.refused) step.after
 
--- so no more are held than a transaction may have
+-- no event exceeds the capacity
 pub held-within : (old new : Front) (event : FrontEvent) → FrontHappens old event new → held old ≤ old.capacity → held new ≤ new.capacity
 held-within old new (Reserve n) step within =
     let free : n ≤ old.capacity - (held old + old.refused) = step.free in
@@ -172,11 +172,11 @@ held-within old new (StopHandle h) step within =
 held-within old new Lock step within = subst (λ (f : Front). held f ≤ f.capacity) (sym step.after) within
 held-within old new (Raise t) step within = subst (λ (f : Front). held f ≤ f.capacity) (sym step.after) within
 
--- a handle that is open is so beside them
+-- an open handle is open beside further credits
 abbrev beside-open : (f : Front) (reserved refused h : ℕ) → IsOpen f h → IsOpen (beside reserved refused f) h
 beside-open f reserved refused h handle = record { left = handle.left; before = handle.before; behind = handle.behind; stands = handle.stands }
 
--- a handle joins beside them
+-- a handle joins beside further credits
 join-beside : (old new : Front) (reserved refused n : ℕ) → Joins old n new → Joins (beside reserved refused old) n (beside reserved refused new)
 join-beside old new reserved refused n step =
     let granted : n ≤ old.reserved = step.credits in
@@ -190,7 +190,7 @@ join-beside old new reserved refused n step =
           ∙ ap (λ (r : ℕ). record (joining old n) { reserved = r; refused = old.refused + refused }) same;
     }
 
--- or gets further credits
+-- a handle gets more credits beside further ones
 extend-beside : (old new : Front) (reserved refused h n : ℕ) → ExtendsHandle old h n new →
     ExtendsHandle (beside reserved refused old) h n (beside reserved refused new)
 extend-beside old new reserved refused h n step =
@@ -206,7 +206,7 @@ extend-beside old new reserved refused h n step =
           ∙ ap (λ (r : ℕ). record (extending old h n step.handle) { reserved = r; refused = old.refused + refused }) same;
     }
 
--- whatever callers hold beside, a step with the front at hand is the same
+-- a step with the front at hand does not depend on other callers' credits
 pub event-beside : (old new : Front) (event : FrontEvent) (reserved refused : ℕ) → IsAtHand event → FrontHappens old event new →
     FrontHappens (beside reserved refused old) event (beside reserved refused new)
 event-beside old new (Reserve n) reserved refused hand step = absurd hand
@@ -246,7 +246,7 @@ event-beside old new (Raise t) reserved refused hand step = record {
   after = ap (λ (f : Front). beside reserved refused f) step.after;
 }
 
--- after each event of a journal
+-- the credits held after each event of a journal
 pub journal-held : (old new : Journal) (disk after : Disk) (event : Event) → Happens old disk event new after → HeldBehind old.front event (held new.front)
 journal-held old new disk after (FrontStep event) step = event-held old.front new.front event step.front
 journal-held old new disk after Seal step =
@@ -268,7 +268,7 @@ journal-held old new disk after DirectSyncFault step = ap (λ (f : Front). held 
 journal-held old new disk after Finish step = ap (λ (f : Front). held f) step.front
 journal-held old new disk after AbortMark step = ap (λ (f : Front). held f) step.front
 
--- whatever callers hold beside, a step of front and engine together is the same
+-- a step of front and engine does not depend on other callers' credits
 pub journal-beside : (old new : Journal) (disk after : Disk) (event : Event) (reserved refused : ℕ) → NeedsFront event → Happens old disk event new after →
     Happens (beside_all reserved refused old) disk event (beside_all reserved refused new) after
 journal-beside old new disk after (FrontStep event) reserved refused needs step = record {

@@ -1,4 +1,4 @@
--- A block that an engine leaves to home is one that its transactions leave to home, so it may be written directly.
+-- A block that an engine leaves to home may be written directly.
 use Rattle.std.proofs.Common.{refl, sym, ◌∙◌, ap, subst, arith, inl, inr, ⊎_elim}
 use Rattle.std.specs.Prelude.{◌≡◌, slice_get, ℕ, ◌+◌, ◌-◌, ◌≤◌, List, [], ◌∷◌, length, take, drop, Option, Some, None}
 use Rattle.std.proofs.lemmas.Bool.{cases_lt}
@@ -32,7 +32,7 @@ none-copied None none = refl
 none-copied (Some Revoke) none = refl
 none-copied (Some (Copy v)) none = absurd (none v refl)
 
--- the first n transactions leave it to home, once as many are committed
+-- if as many are committed, the first n transactions leave it to home
 pub left-direct : (e : Engine) (ts : History) (n b : ℕ) → e.committed ≤ n → AreBatchesOf ts e.accepted → IsLeftToHome e b → after ts n b ≡ Direct
 left-direct e ts n b least are left = none-copied (last_effect b (take n ts)) (λ v made.
     let sum : n ≡ e.committed + (n - e.committed) = omega arith in
@@ -49,7 +49,7 @@ left-direct e ts n b least are left = none-copied (last_effect b (take n ts)) (�
           left.none_due i l.batch (omega arith) stands (entry-block l.batch.entries b (Copy v) l.entry)
     ])
 
--- and those behind them have no effect on it
+-- the later transactions have no effect on it
 left-untouched : (e : Engine) (ts : History) (b : ℕ) → AreBatchesOf ts e.accepted → IsLeftToHome e b → last_effect b (drop e.committed ts) ≡ None
 left-untouched e ts b are left =
     elim (option-known (last_effect b (drop e.committed ts))) [
@@ -59,18 +59,18 @@ left-untouched e ts b are left =
           absurd (left.none_due (e.committed + i) l.batch (omega arith) (sym (get-drop e.committed e.accepted i) ∙ l.stands) (entry-block l.batch.entries b f l.entry))
     ]
 
--- so it may be written directly, as far as the engine's transactions go
+-- it may be written directly, by the engine's transactions
 pub left-right : (e : Engine) (ts : History) (b : ℕ) → AreBatchesOf ts e.accepted → IsLeftToHome e b → HasDirectRight ts e.committed e.committed b
 left-right e ts b are left = record { home = left-direct e ts e.committed b (omega arith) are left; untouched = left-untouched e ts b are left }
 
--- a block that is a copy of the transactions is not left to home
+-- a block that the transactions copy is not left to home
 copy-apart : (c : Content) (v : List ℕ) → c ≡ CopyContent v → c ≡ Direct → ⊥
 copy-apart c v copy direct = apart v (sym copy ∙ direct)
   where
     apart : (v : List ℕ) → CopyContent v ≡ Direct → ⊥
     apart v same = cc
 
--- and where they give the right to it, the engine leaves it to home
+-- the engine leaves a block to home if the transactions give the right to it
 right-left : (e : Engine) (ts : History) (b : ℕ) → AreBatchesOf ts e.accepted → HasDirectRight ts e.committed e.committed b → IsLeftToHome e b
 right-left e ts b are right = record {
   none_newest = λ i v newest. copy-apart (after ts e.committed b) v (newest-after e ts i b v are newest) right.home;
@@ -80,12 +80,12 @@ right-left e ts b are right = record {
       (get-drop e.committed e.accepted (j - e.committed) ∙ ap (slice_get e.accepted) place ∙ stands) has;
 }
 
--- one just where the other
+-- a block is left to home exactly when it may be written directly
 pub left-or_right : (e : Engine) (ts : History) (b : ℕ) → AreBatchesOf ts e.accepted →
     (IsLeftToHome e b → HasDirectRight ts e.committed e.committed b) × (HasDirectRight ts e.committed e.committed b → IsLeftToHome e b)
 left-or_right e ts b are = (λ left. left-right e ts b are left, λ right. right-left e ts b are right)
 
--- and as far as the front's do
+-- it may be written directly, by the front's transactions
 pub front-right : (f : Front) (e : Engine) (b : ℕ) → AreBatchesOf f.sealed e.accepted → e.committed ≤ length f.sealed → IsUntouched f b → IsLeftToHome e b →
     HasDirectRight (transactions f) e.committed (finished_count f) b
 front-right f e b are within untouched left = record {
@@ -95,7 +95,7 @@ front-right f e b are within untouched left = record {
   untouched = untouched;
 }
 
--- what is written
+-- one write has one block and its bytes
 pub same-write : (b c : ℕ) (v w : List ℕ) → Write Home b v ≡ Write Home c w → (c ≡ b) × (w ≡ v)
 same-write b c v w same = (cc, cc)
 
@@ -117,7 +117,7 @@ direct-fault-home old new disk after b v fault = record {
       (λ c w same left. let is = same-write b c v w same in (left-right old ts b are (subst (IsLeftToHome old) is.0 left), is.0, is.1)) fault.due fault.disk_is;
 }
 
--- what is written has the right to it
+-- a direct write that the front allows has the right to its block
 pub written-rightly : (f : Front) (e : Engine) (b : ℕ) (v : List ℕ) → AreBatchesOf f.sealed e.accepted → e.committed ≤ length f.sealed → IsUntouched f b →
     (c : ℕ) (w : List ℕ) → Write Home b v ≡ Write Home c w → IsLeftToHome e c → IsDirectWrite (transactions f) e.committed (finished_count f) b v c w
 written-rightly f e b v are within untouched c w same left =
@@ -128,21 +128,21 @@ pub record HasDirects (directs more : List (ℕ × List ℕ)) (call : Call) : Ty
   pub before : (b : ℕ) (v : List ℕ) → IsOneOf directs (b, v) → IsOneOf more (b, v)
   pub this : (b : ℕ) (v : List ℕ) → call ≡ Write Home b v → IsOneOf more (b, v)
 
--- with a write
+-- a write adds itself to the list
 pub write-directs : (directs : List (ℕ × List ℕ)) (b : ℕ) (v : List ℕ) → HasDirects directs ((b, v) ∷ directs) (Write Home b v)
 write-directs directs b v = record {
   before = λ c w one. inr one;
   this = λ c w same. let is = same-write b c v w same in inl (ap (λ (n : ℕ). (n, w)) is.0 ∙ ap (λ (u : List ℕ). (b, u)) is.1);
 }
 
--- a flush is none
+-- a flush adds nothing to it
 pub flush-directs : (directs : List (ℕ × List ℕ)) → HasDirects directs directs (Flush Home)
 flush-directs directs = record { before = λ b v one. one; this = λ b v same. absurd (apart b v same) }
   where
     apart : (b : ℕ) (v : List ℕ) → Flush Home ≡ Write Home b v → ⊥
     apart b v same = cc
 
--- home holds what is rightly there over a direct call that succeeds
+-- home keeps permitted values over a direct call that succeeds
 pub direct-right : (opening : Disk) (directs more : List (ℕ × List ℕ)) (old new : Engine) (disk after : Disk) (call : Call) → HasDirects directs more call →
     DirectSteps old disk call new after → HomeRight opening directs old disk → HomeRight opening more new after
 direct-right opening directs more old new disk after call has step right =
@@ -151,7 +151,7 @@ direct-right opening directs more old new disk after call has step right =
     (right-on opening directs more old old disk (after_success call disk) (λ b v own. ⊎_elim (λ direct. inl (has.before b v direct)) (λ copy. inr copy) own)
     (direct-adds (IsOwn more old) old disk call (λ b v same left. inl (has.this b v same)) step.due) right))
 
--- and over one that fails
+-- home keeps permitted values over a direct call that fails
 pub direct-fault-right : (opening : Disk) (directs more : List (ℕ × List ℕ)) (old new : Engine) (disk after : Disk) (call : Call) → HasDirects directs more call →
     DirectFaults old disk call new after → HomeRight opening directs old disk → HomeRight opening more new after
 direct-fault-right opening directs more old new disk after call has fault right =

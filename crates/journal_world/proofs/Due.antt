@@ -1,4 +1,4 @@
--- The transaction that is being committed: its text, and the blocks of it that an image has.
+-- The transaction being committed: its text, and its blocks in an image.
 use Rattle.std.proofs.Common.{◌≡◌, ℕ, ◌+◌, ◌<◌, ◌≤◌, List, length, length-take, take, Option, Some, None, arith, refl, ◌∙◌, inl, inr}
 use Rattle.std.specs.List.{AllByRecursion, slice_get}
 use Rattle.std.proofs.lemmas.List.{length-map}
@@ -16,7 +16,7 @@ use Rattle.journal_world.proofs.Elements.{all-at, all-take}
 use Rattle.journal_world.proofs.OwnBlocks.{AreOwn, IsInner, IsNumbered, IsOwn, own-behind, own-inner, own-numbered}
 
 module _ (e : Engine) (plain : IsPlain e) (layout : IsLayout e.layout) where
-  -- the text that is due is one with the number that is due
+  -- the due text is an own text of the due number
   due-own : (b : Batch) → slice_get e.accepted e.committed ≡ Some b →
       IsOwn e.layout e.shape.home_blocks (e.first + e.committed) (text_of e b)
   due-own b stands =
@@ -26,7 +26,7 @@ module _ (e : Engine) (plain : IsPlain e) (layout : IsLayout e.layout) where
       (all-at (IsBatch e.layout e.shape) e.accepted e.committed b plain.batches stands)
       (number-at e.first e.committed e.accepted b plain.numbered stands) (omega arith)
 
-  -- each block of it has the number that is due, where a batch is due at all
+  -- each of its blocks has the due number, if a batch is due
   numbered-if : (o : Option Batch) (i : ℕ) (v : List ℕ) → slice_get e.accepted e.committed ≡ o → slice_get (blocks_if e o) i ≡ Some v →
       IsNumbered (e.first + e.committed) v
   numbered-if None i v is stands = absurd (none-some v stands)
@@ -34,23 +34,23 @@ module _ (e : Engine) (plain : IsPlain e) (layout : IsLayout e.layout) where
       all-at (IsNumbered (e.first + e.committed)) (text_blocks (text_of e b)) i v
       (own-numbered e.layout e.shape.home_blocks (e.first + e.committed) (text_of e b) (due-own b is)) stands
 
-  -- each block that is due has the number that is due
+  -- each due block has the due number
   pub due-numbered : (i : ℕ) (v : List ℕ) → slice_get (due_blocks e) i ≡ Some v → IsNumbered (e.first + e.committed) v
   due-numbered i v stands = numbered-if (slice_get e.accepted e.committed) i v refl stands
 
-  -- each block of it before the last ends nothing, where a batch is due at all
+  -- none of its blocks before the last ends anything, if a batch is due
   inner-if : (o : Option Batch) (i : ℕ) (v : List ℕ) → slice_get e.accepted e.committed ≡ o → slice_get (blocks_if e o) i ≡ Some v →
       i + 1 < length (blocks_if e o) → IsInner e.layout e.shape.home_blocks (e.first + e.committed) v
   inner-if None i v is stands before = absurd (none-some v stands)
   inner-if (Some b) i v is stands before =
       own-inner e.layout e.shape.home_blocks (e.first + e.committed) (text_of e b) i v (due-own b is) stands before
 
-  -- each block that is due before the last ends nothing
+  -- each due block before the last ends nothing
   pub due-inner : (i : ℕ) (v : List ℕ) → slice_get (due_blocks e) i ≡ Some v → i + 1 < length (due_blocks e) →
       IsInner e.layout e.shape.home_blocks (e.first + e.committed) v
   due-inner i v stands before = inner-if (slice_get e.accepted e.committed) i v refl stands before
 
-  -- the blocks of the committed transactions are behind the number that is due
+  -- the blocks of the committed transactions are below the due number
   pub committed-behind : e.committed ≤ length e.accepted → AllByRecursion (IsBehind (e.first + e.committed)) (texts_blocks (committed_texts e))
   committed-behind least =
       let numbers = plain.numbers in
@@ -61,7 +61,7 @@ module _ (e : Engine) (plain : IsPlain e) (layout : IsLayout e.layout) where
       (numbered-take e.first e.committed e.accepted plain.numbered) (omega arith) in
       own-behind e.layout e.shape.home_blocks e.first (e.first + e.committed) (committed_texts e) (omega arith) own
 
--- a block behind a number is not due
+-- a block below a number is not due
 pub behind-not_due : (e : Engine) (next : ℕ) (v : List ℕ) → IsBehind next v → IsNotDue e.layout e.shape.home_blocks next v
 behind-not_due e next v b =
     record {

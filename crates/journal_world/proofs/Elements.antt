@@ -1,4 +1,4 @@
--- The elements of lists by their places, of joined lists and of a list with one more element behind it.
+-- Elements of lists by place, of joined lists, and of a list with one more.
 use Rattle.std.proofs.Common.{refl, sym, ◌∙◌, subst, arith}
 use Rattle.std.specs.Prelude.{◌≡◌, ℕ, zero, suc, ◌+◌, ◌<◌, Bool, false, List, [], ◌∷◌, ◌++◌, length, map, take, unwrap_or, slice_get, Some}
 use Rattle.std.specs.List.{AllByRecursion, list_any}
@@ -8,21 +8,21 @@ use Rattle.std.proofs.lemmas.Option.{get_or_from_slice_get, none-some, same_Some
 use Rattle.std.proofs.Math.Seq.{take-append_seam, take-length}
 use Rattle.journal_model.proofs.ListElements.{get-behind, take-more_read}
 
--- the element that stands behind a list
+-- the element after a list
 pub get-last : {X : Type 0} (xs : List X) (x : X) (k : ℕ) → length xs ≡ k → slice_get (xs ++ x ∷ []) k ≡ Some x
 get-last xs x k size = get-behind xs (x ∷ []) k 0 (omega arith)
 
--- an element below the length is there
+-- there is an element at each place below the length
 pub get-within : {X : Type 0} (xs : List X) (d : X) (k : ℕ) → k < length xs → slice_get xs k ≡ Some (unwrap_or (slice_get xs k) d)
 get-within [] d k below = absurd (omega arith)
 get-within (x ∷ xs) d zero below = refl
 get-within (x ∷ xs) d (suc k) below = get-within xs d k (omega arith)
 
--- one more element than those before it
+-- one more place takes one more element
 pub take-one_more : {X : Type 0} (xs : List X) (k : ℕ) (x : X) → slice_get xs k ≡ Some x → take (k + 1) xs ≡ take k xs ++ x ∷ []
 take-one_more xs k x there = take-more_read xs k x (slice_get_within xs k x there) (sym (get_or_from_slice_get xs k x x there))
 
--- the first elements are the same with one more behind all of them
+-- an added last element leaves the first ones as they are
 pub take-before : {X : Type 0} (xs : List X) (x : X) (k : ℕ) → length xs ≡ k → take k (xs ++ x ∷ []) ≡ take k xs
 take-before xs x k size = rw (← size) (take-append_seam xs (x ∷ []) ∙ sym (take-length xs))
 
@@ -32,7 +32,7 @@ all-at P [] k x all stands = absurd (none-some x stands)
 all-at P (y ∷ xs) zero x all stands = subst P (same_Some y x stands) all.0
 all-at P (y ∷ xs) (suc k) x all stands = all-at P xs k x all.1 stands
 
--- a fact of each element but the last holds of the one at a place before the last
+-- a fact of each element but the last holds at a place before the last
 pub all-before : {X : Type 0} (P : X → Type 0) (xs : List X) (last : X) (k : ℕ) (x : X) → AllByRecursion P xs →
     slice_get (xs ++ last ∷ []) k ≡ Some x → k + 1 < length (xs ++ last ∷ []) → P x
 all-before P [] last k x all stands before = absurd (omega arith)

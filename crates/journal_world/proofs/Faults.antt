@@ -18,7 +18,7 @@ use Rattle.journal_world.proofs.Places.{flush-fault, is_write-fault}
 use Rattle.journal_world.proofs.Starting.{start-fails}
 use Rattle.journal_world.proofs.Texts.{due-some}
 
--- on a disk that did not change, the engine is sound at the same stage
+-- on an unchanged disk, the engine is sound at the same stage
 same-sound : (e : Engine) (stage : Stage) (a b : Bool) (disk : Disk) → Sound (at e stage a) disk → StageAgrees (at e stage b) stage →
     StageHolds (at e stage b) disk stage → Sound (at e stage b) disk
 same-sound e stage a b disk sound agrees holds = record {
@@ -31,7 +31,7 @@ same-sound e stage a b disk sound agrees holds = record {
   round = round-at e stage stage a b disk disk sound (record { same = λ n. refl }) refl;
 }
 
--- which call is due does not depend on whether the device has failed
+-- the stage agrees whether or not the device has failed
 agrees-either : (e : Engine) (stage : Stage) (a b : Bool) → StageAgrees (at e stage a) stage → StageAgrees (at e stage b) stage
 agrees-either e Idle a b agrees = agrees
 agrees-either e SuperblockWrite a b agrees = agrees
@@ -40,7 +40,7 @@ agrees-either e (Blocks k) a b agrees = agrees
 agrees-either e CommitWrite a b agrees = agrees
 agrees-either e CommitFlush a b agrees = agrees
 
--- nor does what is written by then
+-- the stage holds whether or not the device has failed
 holds-either : (e : Engine) (stage : Stage) (a b : Bool) (disk : Disk) → StageHolds (at e stage a) disk stage → StageHolds (at e stage b) disk stage
 holds-either e Idle a b disk holds = holds
 holds-either e SuperblockWrite a b disk holds = holds
@@ -49,20 +49,20 @@ holds-either e (Blocks k) a b disk holds = holds
 holds-either e CommitWrite a b disk holds = holds
 holds-either e CommitFlush a b disk holds = holds
 
--- so an engine stays sound where it is aborted by a call that leaves the disk as it is
+-- an engine aborted by a call that leaves the disk stays sound
 pub abort-sound : (e : Engine) (disk : Disk) → Sound e disk → Sound (record e { aborted = true }) disk
 abort-sound e disk sound =
     same-sound e e.stage e.aborted true disk sound (agrees-either e e.stage e.aborted true sound.plain.stage)
     (holds-either e e.stage e.aborted true disk sound.stage)
 
--- the flush behind the superblock fails
+-- the engine stays sound if the flush of the superblock fails
 started-fails : (e : Engine) (a b : Bool) (disk after : Disk) → Sound (at e SuperblockFlush a) disk → IsAfterFault (Flush Log) disk after →
     Sound (at e SuperblockFlush b) after
 started-fails e a b disk after sound fault =
     subst (λ (d : Disk). Sound (at e SuperblockFlush b) d) (sym (flush-fault disk after fault))
     (same-sound e SuperblockFlush a b disk sound sound.plain.stage sound.stage)
 
--- the write of a block before the commit block fails, or the flush of them
+-- the engine stays sound if the write of a block before the commit block, or their flush, fails
 blocks-fails : (e : Engine) (a b : Bool) (disk after : Disk) (k : ℕ) (more : Bool) → Sound (at e (Blocks k) a) disk →
     nat_lt (k + 1) (length (due_blocks e)) ≡ more →
     IsAfterFault (if more then write_block e k else Flush Log) disk after → Sound (at e (Blocks k) b) after
@@ -77,7 +77,7 @@ blocks-fails e a b disk after k false sound test fault =
     subst (λ (d : Disk). Sound (at e (Blocks k) b) d) (sym (flush-fault disk after fault))
     (same-sound e (Blocks k) a b disk sound sound.plain.stage sound.stage)
 
--- the write of the commit block fails
+-- the engine stays sound if the write of the commit block fails
 commit_write-fails : (e : Engine) (a b : Bool) (disk after : Disk) → Sound (at e CommitWrite a) disk →
     IsAfterFault (write_block e (length (due_blocks e) - 1)) disk after →
     Sound (at e CommitWrite b) after
@@ -90,18 +90,18 @@ commit_write-fails e a b disk after sound fault =
     } in
     commit-fails e a b disk after sound due
 
--- its flush fails
+-- the engine stays sound if the flush of the commit block fails
 commit_flush-fails : (e : Engine) (a b : Bool) (disk after : Disk) → Sound (at e CommitFlush a) disk → IsAfterFault (Flush Log) disk after →
     Sound (at e CommitFlush b) after
 commit_flush-fails e a b disk after sound fault =
     subst (λ (d : Disk). Sound (at e CommitFlush b) d) (sym (flush-fault disk after fault))
     (same-sound e CommitFlush a b disk sound sound.plain.stage sound.stage)
 
--- what failed is the call that is due
+-- the call that failed is the due one
 due-fault : (disk after : Disk) (call due : Call) → Some due ≡ Some call → IsAfterFault call disk after → IsAfterFault due disk after
 due-fault disk after call due same fault = subst (λ (c : Call). IsAfterFault c disk after) (sym (same_Some due call same)) fault
 
--- whichever call is due at a stage, the engine is sound after it failed
+-- the engine stays sound if the due call of a stage fails
 fault-at : (e : Engine) (stage : Stage) (a b : Bool) (disk after : Disk) (call : Call) → Sound (at e stage a) disk →
     call_in (at e stage a) stage ≡ Some call →
     IsAfterFault call disk after → Sound (at e stage b) after

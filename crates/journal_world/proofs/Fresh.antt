@@ -22,7 +22,7 @@ uuid-whole shape block accepted size =
     let large : 1024 ≤ shape.block_size = accepted-size shape block accepted in
     simp (length-take, length-drop) (omega arith)
 
--- a ring block is behind the first transaction, numbered as the sum with no committed ones
+-- each ring block is below the first number
 fresh-behind : (shape : Shape) (disk : Disk) (superblock : List ℕ) (next : ℕ) (k : ℕ) (v : List ℕ) → IsOpenedLog shape disk superblock next →
     IsOneOf (held (disk Log (ring_place (ring_of (super_in superblock)) k))) v → IsBehind (next + 0) v
 fresh-behind shape disk superblock next k v log one =
@@ -32,7 +32,7 @@ fresh-behind shape disk superblock next k v log one =
     let behind : IsBehind next v = log.behind (ring_place (ring_of (super_in superblock)) k) v (omega arith) (omega arith) one in
     record { below = λ magic. let low = behind.below magic in omega arith }
 
--- what it keeps true of itself
+-- the engine of an opened log is plain
 pub fresh-plain : (shape : Shape) (superblock : List ℕ) (next : ℕ) → NamesNothing shape (layout_of (super_in superblock)) (ring_of (super_in superblock)) next superblock →
     next ≤ greatest_number → IsPlain (fresh_engine shape superblock next)
 fresh-plain shape superblock next named number = record {

@@ -1,4 +1,4 @@
--- The front agrees with the engine, and each step of the front keeps that, as does whatever step the engine goes on by.
+-- The front agrees with the engine, and each step of either keeps that.
 use Rattle.std.proofs.Common.{refl, sym, ap, subst, ◌∙◌, arith, length-append}
 use Rattle.std.specs.Prelude.{◌≡◌, ℕ, suc, ◌+◌, ◌<◌, ◌≤◌, max, nat_eq, Bool, true, false, List, [], ◌∷◌, ◌++◌, length, map, Contains, Some, Ok}
 use Rattle.std.specs.List.{AllByRecursion, IsDistinct, list_any}
@@ -33,9 +33,8 @@ use Rattle.journal_world.proofs.Legal.{legal-begin, legal-empty, legal-read, leg
 use Rattle.journal_world.proofs.Onward.{GoesOn}
 use Rattle.journal_world.proofs.OpenHandles.{all-changed, all-without, distinct-without, same-numbers}
 
--- What the front keeps true beside the engine: what `KeepsFront` says; answers tell of no transaction above the mark; handles
--- and reads are as a record has them; and no open handle has a number that is still to be given. (With number 0 for the first
--- transaction nothing is ever sealed.)
+-- What the front keeps beside the engine: `KeepsFront`; no answer names a transaction above the mark; handles and reads are
+-- as a record has them; no open handle has a number still to be given. (If the first number is 0, nothing is ever sealed.)
 pub record FrontAgrees (f : Front) (e : Engine) (answered : List ℕ) : Type 0 where
   pub told : AllByRecursion (λ n. n ≤ f.mark) answered
   pub handles : HasHandles f.given (f.sealed ++ f.running ∷ [])
@@ -43,7 +42,7 @@ pub record FrontAgrees (f : Front) (e : Engine) (answered : List ℕ) : Type 0 w
   pub keeps : KeepsFront f e
   pub least : AllByRecursion (λ h. h.0 ≤ f.given) f.open_handles
 
--- the front of a journal that was just made agrees with its engine
+-- the front of a new journal agrees with its engine
 pub fresh-agrees : (capacity : ℕ) (shape : Shape) (superblock : List ℕ) (next : ℕ) (e : Engine) → e ≡ fresh_engine shape superblock next →
     IsCapacity e.layout e.ring.blocks capacity → FrontAgrees (fresh_front e.layout e.shape.home_blocks capacity next) e []
 fresh-agrees capacity shape superblock next e is fits =
@@ -70,7 +69,7 @@ fresh-agrees capacity shape superblock next e is fits =
       least = tt;
     }
 
--- other credits that no handle was made of, what refused reserves have not taken back, and the lock do not matter
+-- reserved and refused credits and the lock do not matter
 credits-agree : (f : Front) (e : Engine) (answered : List ℕ) (reserved refused : ℕ) (locked : Bool) →
     held (record f { reserved = reserved; refused = refused; locked = locked }) ≤ f.capacity → FrontAgrees f e answered →
     FrontAgrees (record f { reserved = reserved; refused = refused; locked = locked }) e answered
@@ -94,7 +93,7 @@ credits-agree f e answered reserved refused locked within agrees = record {
   least = agrees.least;
 }
 
--- a handle joins
+-- the front agrees after a join
 join-agrees : (f : Front) (e : Engine) (answered : List ℕ) (n : ℕ) → held (joining f n) ≤ f.capacity → FrontAgrees f e answered →
     FrontAgrees (joining f n) e answered
 join-agrees f e answered n within agrees =
@@ -136,7 +135,7 @@ join-agrees f e answered n within agrees =
         apart [] low = tt
         apart (h ∷ rest) low = (grind (arith, nat_tests, low.0), apart rest low.1)
 
--- an open handle gets further credits
+-- it agrees after an open handle gets more credits
 extend-agrees : (f : Front) (e : Engine) (answered : List ℕ) (h n : ℕ) (handle : IsOpen f h) → held (extending f h n handle) ≤ f.capacity →
     FrontAgrees f e answered → FrontAgrees (extending f h n handle) e answered
 extend-agrees f e answered h n handle within agrees = record {
@@ -165,13 +164,13 @@ extend-agrees f e answered h n handle within agrees = record {
       (subst (AllByRecursion (λ o. o.0 ≤ f.given)) handle.stands agrees.least);
 }
 
--- an open handle is one of those that joined
+-- an open handle is one that joined
 own-handle : (handles : List ℕ) (h left : ℕ) (before behind : List (ℕ × ℕ)) →
     AllByRecursion (λ o. Contains handles o.0) (before ++ (h, left) ∷ behind) → Contains handles h
 own-handle handles h left [] behind all = all.0
 own-handle handles h left (o ∷ before) behind all = own-handle handles h left before behind all.1
 
--- an open handle touches a block
+-- it agrees after a touch
 touch-agrees : (f : Front) (e : Engine) (answered : List ℕ) (h b : ℕ) (op : Op) (left : Entry) (handle : IsOpen f h) → entry_of op ≡ Some left →
     held (touching f h b op handle) ≤ f.capacity → FrontAgrees f e answered → FrontAgrees (touching f h b op handle) e answered
 touch-agrees f e answered h b op left handle leaves within agrees =
@@ -202,7 +201,7 @@ touch-agrees f e answered h b op left handle leaves within agrees =
       least = all-changed (λ o. o.0 ≤ f.given) handle.before (h, handle.left) (h, left_after f b handle.left) handle.behind (λ low. low) least;
     }
 
--- an open handle reads a block, and sees what it is to see
+-- it agrees after a read, which sees the right bytes
 pub read-agrees : (f : Front) (e : Engine) (answered : List ℕ) (h b : ℕ) (v home : List ℕ) → IsOpen f h →
     seen (transactions f) (finished_count f) b home ≡ Ok v → FrontAgrees f e answered → FrontAgrees (reading_block f h b v) e answered
 read-agrees f e answered h b v home handle sees agrees =
@@ -233,7 +232,7 @@ read-agrees f e answered h b v home handle sees agrees =
       least = agrees.least;
     }
 
--- an open handle stops
+-- it agrees after a handle stops
 stop-agrees : (f : Front) (e : Engine) (answered : List ℕ) (h : ℕ) (handle : IsOpen f h) → held (stopping f h handle) ≤ f.capacity → FrontAgrees f e answered →
     FrontAgrees (stopping f h handle) e answered
 stop-agrees f e answered h handle within agrees = record {
@@ -260,7 +259,7 @@ stop-agrees f e answered h handle within agrees = record {
   least = all-without (λ o. o.0 ≤ f.given) handle.before (h, handle.left) handle.behind (subst (AllByRecursion (λ o. o.0 ≤ f.given)) handle.stands agrees.least);
 }
 
--- the mark is raised to a number that is finished
+-- it agrees after the mark rises to a finished number
 raise-agrees : (f : Front) (e : Engine) (answered : List ℕ) (t : ℕ) → t ≤ f.finished → FrontAgrees f e answered → FrontAgrees (raising f t) e answered
 raise-agrees f e answered t finished agrees =
     let higher = le-max_left f.mark t in
@@ -284,7 +283,7 @@ raise-agrees f e answered t finished agrees =
       least = agrees.least;
     }
 
--- a step of the front alone
+-- it agrees after each step of the front alone
 pub front-agrees : (old new : Front) (e : Engine) (answered : List ℕ) (event : FrontEvent) → FrontHappens old event new → FrontAgrees old e answered →
     FrontAgrees new e answered
 front-agrees old new e answered event step agrees = by event step (held-within old new event step agrees.keeps.credits)
@@ -327,7 +326,7 @@ front-agrees old new e answered event step agrees = by event step (held-within o
     by (Raise t) step within =
         subst (λ (f : Front). FrontAgrees f e answered) (sym step.after) (raise-agrees old e answered t step.finished agrees)
 
--- the front knows that one more transaction is committed
+-- it agrees once it knows of one more committed transaction
 pub finish-agrees : (f : Front) (e : Engine) (answered : List ℕ) → f.finished + 1 < e.first + e.committed → FrontAgrees f e answered →
     FrontAgrees (finishing f) e answered
 finish-agrees f e answered committed agrees = record {
@@ -350,7 +349,7 @@ finish-agrees f e answered committed agrees = record {
   least = agrees.least;
 }
 
--- an answer tells of a transaction that the mark has come to
+-- it agrees after an answer about a transaction up to the mark
 pub answer-agrees : (f : Front) (e : Engine) (answered : List ℕ) (tid : ℕ) → tid ≤ f.mark → FrontAgrees f e answered → FrontAgrees f e (tid ∷ answered)
 answer-agrees f e answered tid marked agrees = record {
   told = (marked, agrees.told);
@@ -360,7 +359,7 @@ answer-agrees f e answered tid marked agrees = record {
   least = agrees.least;
 }
 
--- what a sealed front keeps beside an engine of the same measures that has not failed either
+-- what a sealed front keeps beside another engine of the same measures
 sealed-keeps : (f : Front) (old new : Engine) → f.open_handles ≡ [] → new.shape ≡ old.shape → new.layout ≡ old.layout → new.ring ≡ old.ring →
     new.aborted ≡ old.aborted → AreBatchesOf (f.sealed ++ f.running ∷ []) new.accepted → suc f.running.tid ≡ new.first + length new.accepted →
     f.finished < new.first + new.committed → KeepsFront f old → KeepsFront (sealing f) new
@@ -380,7 +379,7 @@ sealed-keeps f old new none shape layout ring aborted batches number committed k
       once = keeps.once;
     }
 
--- the running transaction is sealed, and the engine takes it
+-- it agrees after a seal, with the engine that took the transaction
 pub seal-agrees : (f : Front) (old new : Engine) (answered : List ℕ) → MaySeal f → Accepts old (batch_of f.running) new → FrontAgrees f old answered →
     FrontAgrees (sealing f) new answered
 seal-agrees f old new answered may accepts agrees =
@@ -398,7 +397,7 @@ seal-agrees f old new answered may accepts agrees =
       least = agrees.least;
     })
 
--- what a front keeps beside an engine that goes on, where it knows whether that has failed
+-- what a front keeps beside an engine that goes on
 keeps-on : (f : Front) (old new : Engine) (aborted : Bool) → GoesOn old new → (aborted ≡ true → new.aborted ≡ true) → KeepsFront f old →
     KeepsFront (record f { aborted = aborted }) new
 keeps-on f old new aborted on told keeps =
@@ -419,7 +418,7 @@ keeps-on f old new aborted on told keeps =
       once = keeps.once;
     }
 
--- a front agrees with an engine that goes on, once it knows whether that has failed
+-- a front agrees with an engine that goes on, if it is aborted only when the engine is
 pub told-on : (f : Front) (old new : Engine) (answered : List ℕ) (aborted : Bool) → GoesOn old new → (aborted ≡ true → new.aborted ≡ true) → FrontAgrees f old answered →
     FrontAgrees (record f { aborted = aborted }) new answered
 told-on f old new answered aborted on told agrees =
@@ -431,12 +430,12 @@ told-on f old new answered aborted on told agrees =
       least = agrees.least;
     }
 
--- by a step that succeeds
+-- it agrees after an engine step that succeeds
 pub goes-on : (f : Front) (old new : Engine) (answered : List ℕ) → GoesOn old new → new.aborted ≡ old.aborted → FrontAgrees f old answered →
     FrontAgrees f new answered
 goes-on f old new answered on same agrees = told-on f old new answered f.aborted on (λ yes. same ∙ agrees.keeps.aborted yes) agrees
 
--- and by one that fails
+-- it agrees after one that fails, once it is notified
 pub fails-on : (f : Front) (old new : Engine) (answered : List ℕ) → GoesOn old new → new.aborted ≡ true → FrontAgrees f old answered →
     FrontAgrees (aborting f) new answered
 fails-on f old new answered on failed agrees = told-on f old new answered true on (λ yes. failed) agrees

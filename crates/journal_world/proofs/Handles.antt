@@ -1,4 +1,4 @@
--- The handles of transactions: each belongs to one of them, and none has a number that is still to be given.
+-- Each handle belongs to one transaction, and none has a number still to be given.
 use Rattle.std.proofs.Common.{◌≡◌, ℕ, suc, ◌+◌, ◌<◌, ◌≤◌, false, List, [], ◌∷◌, ◌++◌, Some, arith, refl, sym, ◌∙◌, ap, subst, append-nil}
 use Rattle.std.specs.Prelude.{nat_eq, All}
 use Rattle.std.specs.List.{AllByRecursion, Contains, IsDistinct, list_any}
@@ -15,21 +15,21 @@ use Rattle.journal_model.specs.Transaction.{History, Transaction}
 use Rattle.journal_world.specs.Front.{empty_transaction, handle_numbers, handles_of}
 use Rattle.journal_world.proofs.Elements.{all-weaker, none-passes}
 
--- each step of the transaction is of a handle of it
+-- each step of the transaction is by one of its handles
 abbrev pub OwnsSteps : Transaction → Type 0
 OwnsSteps t = All (λ s. Contains t.handles s.handle) t.steps
 
--- each handle is of one transaction, and the handles are those of the first so many numbers
+-- each handle is of one transaction, and handles are the numbers given out
 pub record HasHandles (given : ℕ) (ts : History) : Type 0 where
   pub each : EachHandleOnce ts
   pub all : handles_of ts ≡ handle_numbers given
   pub least : AllByRecursion (λ h. h ≤ given) (handles_of ts)
 
--- the handles of a history with one transaction behind it
+-- the handles of a history with one more transaction
 pub handles-last : (ts : History) (t : Transaction) → handles_of (ts ++ t ∷ []) ≡ handles_of ts ++ t.handles
 handles-last ts t = flat_map-append (λ x. x.handles) ts (t ∷ []) ∙ ap (λ hs. handles_of ts ++ hs) (append-nil t.handles)
 
--- with one more handle in it
+-- the handles with one more in the last transaction
 handles-more : (ts : History) (t : Transaction) (h : ℕ) →
     handles_of (ts ++ record t { handles = t.handles ++ h ∷ [] } ∷ []) ≡ handles_of (ts ++ t ∷ []) ++ h ∷ []
 handles-more ts t h =
@@ -37,22 +37,22 @@ handles-more ts t h =
     ∙ sym (append_assoc (handles_of ts) t.handles (h ∷ []))
     ∙ ap (λ hs. hs ++ h ∷ []) (sym (handles-last ts t))
 
--- each of some transactions, and the last one by itself
+-- a fact of all transactions, split at the last one
 own-parts : (ts : History) (t : Transaction) → All OwnsSteps (ts ++ t ∷ []) → All OwnsSteps ts × OwnsSteps t
 own-parts ts t own = All-pop OwnsSteps (ts ++ t ∷ []) ts (Some t) refl own
 
--- a number above all of some numbers is none of them
+-- a number above all others is none of them
 above-none : (most n : ℕ) (hs : List ℕ) → AllByRecursion (λ h. h ≤ most) hs → most < n → list_any (nat_eq n) hs ≡ false
 above-none most n hs least above =
     none-passes (nat_eq n) hs (all-weaker (λ h. h ≤ most) (λ h. nat_eq n h ≡ false) (λ h low. grind (arith, nat_tests)) hs least)
 
--- the numbers of one handle more
+-- the handle numbers with one more
 numbers-more : (given : ℕ) → handle_numbers given ++ (given + 1) ∷ [] ≡ handle_numbers (given + 1)
 numbers-more given =
     let next : suc given ≡ given + 1 = omega arith in
     subst (λ n. handle_numbers given ++ n ∷ [] ≡ handle_numbers n) next refl
 
--- one transaction without handles has none
+-- an empty transaction has no handles
 pub handles-empty : (n : ℕ) → HasHandles 0 (empty_transaction n ∷ [])
 handles-empty n = record {
   each = record {
@@ -63,7 +63,7 @@ handles-empty n = record {
   least = tt;
 }
 
--- the next number is that of a new handle of the last transaction
+-- the next number may join the last transaction
 pub handles-join : (given : ℕ) (ts : History) (t : Transaction) → HasHandles given (ts ++ t ∷ []) →
     HasHandles (given + 1) (ts ++ record t { handles = t.handles ++ (given + 1) ∷ [] } ∷ [])
 handles-join given ts t has =
@@ -84,7 +84,7 @@ handles-join given ts t has =
           (each-append (λ h. h ≤ given + 1) (handles_of (ts ++ t ∷ [])) ((given + 1) ∷ []) least (omega arith, tt));
     }
 
--- a handle of the last transaction makes one step more
+-- a handle of the last transaction may make one more step
 pub handles-step : (given : ℕ) (ts : History) (t : Transaction) (s : Step) → Contains t.handles s.handle → HasHandles given (ts ++ t ∷ []) →
     HasHandles given (ts ++ record t { steps = t.steps ++ s ∷ [] } ∷ [])
 handles-step given ts t s joined has =
@@ -100,7 +100,7 @@ handles-step given ts t s joined has =
       least = subst (AllByRecursion (λ h. h ≤ given)) same has.least;
     }
 
--- a transaction without handles begins behind the others
+-- an empty transaction may follow the others
 pub handles-begin : (given : ℕ) (ts : History) (n : ℕ) → HasHandles given ts → HasHandles given (ts ++ empty_transaction n ∷ [])
 handles-begin given ts n has =
     let same : handles_of ts ≡ handles_of (ts ++ empty_transaction n ∷ []) =

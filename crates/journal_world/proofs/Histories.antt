@@ -27,12 +27,12 @@ unfolding op_of
 op-leaves (Copy v) = refl
 op-leaves Revoke = refl
 
--- what all elements are, the one behind the first ones is
+-- what holds of all elements holds of the one after the first ones
 all-behind : (P : ℕ → Type 0) (xs : List ℕ) (y : ℕ) (zs : List ℕ) → AllByRecursion P (xs ++ y ∷ zs) → P y
 all-behind P [] y zs all = all.0
 all-behind P (x ∷ xs) y zs all = all-behind P xs y zs all.1
 
--- of different numbers none stands before itself
+-- in a list of different numbers, none stands before itself
 none-again : (xs : List ℕ) (y : ℕ) (zs : List ℕ) → IsDistinct nat_eq (xs ++ y ∷ zs) → Contains xs y → ⊥
 none-again [] y zs once m = contains-none y m
 none-again (x ∷ xs) y zs once m =
@@ -43,7 +43,7 @@ none-again (x ∷ xs) y zs once m =
       | inr behind ↦ none-again xs y zs (IsDistinct-tail nat_eq x (xs ++ y ∷ zs) once) behind
     ]
 
--- a block whose entry is to come has no effect yet
+-- a block whose entry is still to come has no effect yet
 none-yet : (ss : List Step) (done : List (ℕ × Entry)) (p : ℕ × Entry) (rest : List (ℕ × Entry)) → entries ss ≡ done →
     IsDistinct nat_eq (map (λ q. q.0) (done ++ p ∷ rest)) → effect p.0 ss ≡ None
 none-yet ss done p rest is once =
@@ -56,7 +56,7 @@ none-yet ss done p rest is once =
           absurd (none-again (map block done) p.0 (map block rest) (subst (IsDistinct nat_eq) (map-append block done (p ∷ rest)) once) before)
     ]
 
--- steps that leave these entries
+-- some steps leave these entries
 steps-of : (done rest : List (ℕ × Entry)) (ss : List Step) → entries ss ≡ done → IsDistinct nat_eq (map (λ q. q.0) (done ++ rest)) →
     (all : List Step) × (entries all ≡ done ++ rest)
 steps-of done [] ss is once = (ss, is ∙ sym (append-nil done))
@@ -68,7 +68,7 @@ steps-of done (p ∷ rest) ss is once =
     let (all, are) = steps-of (done ++ p ∷ []) rest (ss ++ step ∷ []) more (subst (λ (es : List (ℕ × Entry)). IsDistinct nat_eq (map (λ q. q.0) es)) (sym again) once) in
     (all, are ∙ again)
 
--- transactions of batches, with one more
+-- one more transaction has one more batch
 batches-more : (ts : History) (bs : List Batch) (t : Transaction) (b : Batch) → b.tid ≡ t.tid → b.entries ≡ entries t.steps → AreBatchesOf ts bs →
     AreBatchesOf (ts ++ t ∷ []) (bs ++ b ∷ [])
 batches-more [] [] t b number same are = (number, same, tt)
@@ -76,7 +76,7 @@ batches-more [] (c ∷ bs) t b number same are = absurd are
 batches-more (u ∷ ts) [] t b number same are = absurd are
 batches-more (u ∷ ts) (c ∷ bs) t b number same are = (are.0, are.1, batches-more ts bs t b number same are.2)
 
--- so one more batch of different blocks is that of one more transaction
+-- one more batch of different blocks is that of some transaction
 pub history-more : (ts : History) (bs : List Batch) (b : Batch) → IsDistinct nat_eq (map (λ q. q.0) b.entries) → AreBatchesOf ts bs →
     (more : History) × AreBatchesOf more (bs ++ b ∷ [])
 history-more ts bs b once are =

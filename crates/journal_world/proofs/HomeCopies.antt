@@ -1,4 +1,4 @@
--- Steps of a round change home by copies alone: each is the one that the committed transactions leave of its block.
+-- Steps of a round change home by copies alone, those that the committed transactions leave.
 use Rattle.std.proofs.Common.{refl, sym, ◌∙◌, ap, subst, arith, inl, inr}
 use Rattle.std.specs.Prelude.{◌≡◌, ◌⊎◌, ℕ, zero, suc, ◌<◌, List, [], ◌∷◌, map, take, Some, None, slice_get, Contains}
 use Rattle.std.proofs.lemmas.Bool.{cases_eq}
@@ -29,7 +29,7 @@ use Rattle.journal_world.proofs.Pending.{contains-map, newest-of}
 batch-effect : (t : Transaction) (c : Batch) (b : ℕ) (x : Entry) → c.entries ≡ entries t.steps → Contains c.entries (b, x) → effect b t.steps ≡ Some x
 batch-effect t c b x same has = entries-effect t.steps b x (subst (λ es. Contains es (b, x)) same has)
 
--- without an entry of a block it has no effect on it
+-- a batch without an entry of a block has no effect on it
 no-effect : (t : Transaction) (c : Batch) (b : ℕ) → c.entries ≡ entries t.steps → (Contains (map (λ p. p.0) c.entries) b → ⊥) → effect b t.steps ≡ None
 no-effect t c b same none =
     elim (option-known (effect b t.steps)) [
@@ -38,7 +38,7 @@ no-effect t c b same none =
           absurd (none (contains-map (λ p. p.0) c.entries (b, x) (subst (λ es. Contains es (b, x)) (sym same) (effect-entries t.steps b x made))))
     ]
 
--- no effect in the first n transactions, where none of them has an entry of the block
+-- the first n transactions have no effect on a block without an entry there
 last-none : (ts : History) (bs : List Batch) (n b : ℕ) → AreBatchesOf ts bs →
     ((j : ℕ) (c : Batch) → j < n → slice_get bs j ≡ Some c → Contains (map (λ p. p.0) c.entries) b → ⊥) → last_effect b (take n ts) ≡ None
 last-none ts bs zero b are none = refl
@@ -48,7 +48,7 @@ last-none (t ∷ ts) (c ∷ bs) (suc n) b are none =
     let rest : last_effect b (take n ts) ≡ None = last-none ts bs n b are.2 (λ j d below stands has. none (suc j) d (omega arith) stands has) in
     ap (later (effect b t.steps)) rest ∙ no-effect t c b are.1 (λ has. none 0 c (omega arith) refl has)
 
--- the last effect in them is the copy in one of them behind which none has an entry of the block
+-- the last effect is a copy, if no later batch has an entry of the block
 last-copy : (ts : History) (bs : List Batch) (n i b : ℕ) (v : List ℕ) (c : Batch) → AreBatchesOf ts bs → i < n → slice_get bs i ≡ Some c →
     Contains c.entries (b, Copy v) →
     ((j : ℕ) (d : Batch) → i < j → j < n → slice_get bs j ≡ Some d → Contains (map (λ p. p.0) d.entries) b → ⊥) →
@@ -66,7 +66,7 @@ last-copy (t ∷ ts) (d ∷ bs) (suc n) (suc i) b v c are below stands copy none
     ap (later (effect b t.steps))
     (last-copy ts bs n i b v c are.2 (omega arith) stands copy (λ j x behind less at has. none (suc j) x (omega arith) (omega arith) at has))
 
--- the newest committed copy of a block is the one that the committed transactions leave of it
+-- a newest committed copy is the one that the committed transactions leave
 pub newest-after : (e : Engine) (ts : History) (i b : ℕ) (v : List ℕ) → AreBatchesOf ts e.accepted → IsNewestCopy e i b v → IsCommittedCopy ts e.committed b v
 newest-after e ts i b v are newest =
     ap content_of (last-copy ts e.accepted e.committed i b v newest.copy.batch are newest.copy.committed newest.copy.stands newest.copy.copy newest.last)
@@ -98,7 +98,7 @@ adds-written may disk b v adds = record {
   ];
 }
 
--- so does one that failed and was handed over
+-- a failed write that was handed over adds its bytes
 adds-handed_over : (may : Addition) (disk : Disk) (b : ℕ) (v : List ℕ) → may b v → HomeAddsOnly may disk (handed_over disk Home b v)
 adds-handed_over may disk b v adds = record {
   reads = λ m. elim (cases_eq m b) [
@@ -140,7 +140,7 @@ write-adds may b v old new adds (Undone call x y same) = adds-none may old new (
 write-adds may b v old new adds (Whole a m w x y same) = subst (λ (d : Disk). HomeAddsOnly may old d) (sym same) (adds-written may old b v adds)
 write-adds may b v old new adds (HandedOver a m w x y same) = subst (λ (d : Disk). HomeAddsOnly may old d) (sym same) (adds-handed_over may old b v adds)
 
--- and so does whatever call of a round failed
+-- a failed call of a round adds newest copies at most
 fault-adds : (may : Addition) (e : Engine) (round : Round) (call : Call) (new : Engine) (disk after : Disk) →
     ((i b : ℕ) (v : List ℕ) → IsNewestCopy e i b v → may b v) → RoundCall e round call new → IsAfterFault call disk after → HomeAddsOnly may disk after
 fault-adds may e round call new disk after adds (CopyHome transaction block i b v next) fault =
@@ -159,32 +159,32 @@ begun-newest e (Copies transaction block) i b v newest = newest
 begun-newest e TailWrite i b v newest = newest
 begun-newest e TailFlush i b v newest = newest
 
--- so a step of a round adds newest copies alone
+-- a step of a round adds newest copies alone
 pub round-adds : (may : Addition) (old new : Engine) (disk after : Disk) → ((i b : ℕ) (v : List ℕ) → IsNewestCopy old i b v → may b v) →
     RoundSteps old disk new after → HomeAddsOnly may disk after
 round-adds may old new disk after adds step =
     subst (λ (d : Disk). HomeAddsOnly may disk d) (sym step.disk_is)
     (call-adds may (begun old) (begun old).round step.call new disk (λ i b v newest. adds i b v (begun-newest old old.round i b v newest)) step.due)
 
--- and so does one that fails
+-- a failed step of a round adds newest copies alone
 pub round-fault-adds : (may : Addition) (old new : Engine) (disk after : Disk) → ((i b : ℕ) (v : List ℕ) → IsNewestCopy old i b v → may b v) →
     RoundFaults old disk new after → HomeAddsOnly may disk after
 round-fault-adds may old new disk after adds fault =
     fault-adds may (begun old) (begun old).round fault.call fault.stepped disk after
     (λ i b v newest. adds i b v (begun-newest old old.round i b v newest)) fault.due fault.disk_is
 
--- a step of a round changes home by copies that the committed transactions leave
+-- a step of a round adds copies that the committed transactions leave
 pub round-home : (old new : Engine) (disk after : Disk) → RoundSteps old disk new after → CopiesHome old disk after
 round-home old new disk after step = record {
   adds = λ ts are. round-adds (IsCommittedCopy ts old.committed) old new disk after (λ i b v newest. newest-after old ts i b v are newest) step;
 }
 
--- so does one that fails
+-- a failed step of a round does the same
 pub round-fault-home : (old new : Engine) (disk after : Disk) → RoundFaults old disk new after → CopiesHome old disk after
 round-fault-home old new disk after fault = record {
   adds = λ ts are. round-fault-adds (IsCommittedCopy ts old.committed) old new disk after (λ i b v newest. newest-after old ts i b v are newest) fault;
 }
 
--- and so does, with no copy at all, a step that keeps home as it was
+-- a step that keeps home adds no copy
 pub keeps-copies : (e : Engine) (old new : Disk) → KeepsHome old new → CopiesHome e old new
 keeps-copies e old new keeps = record { adds = λ ts are. adds-none (IsCommittedCopy ts e.committed) old new keeps.same }

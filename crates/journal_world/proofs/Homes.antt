@@ -17,7 +17,7 @@ abbrev pub IsLogCall : Call → Type 0
 IsLogCall (Write area n v) = area ≡ Log
 IsLogCall (Flush area) = area ≡ Log
 
--- each call that is due is one
+-- each due call of a commit is one
 log-calls : (e : Engine) (stage : Stage) (call : Call) → call_in e stage ≡ Some call → IsLogCall call
 log-calls e Idle call due = absurd (none-some call due)
 log-calls e SuperblockWrite call due = subst IsLogCall (same_Some _ call due) refl
@@ -30,14 +30,14 @@ log-calls e (Blocks k) call due = subst IsLogCall (same_Some _ call due) (either
 log-calls e CommitWrite call due = subst IsLogCall (same_Some _ call due) refl
 log-calls e CommitFlush call due = subst IsLogCall (same_Some _ call due) refl
 
--- it leaves home as it is where it succeeds
+-- a log call that succeeds leaves home as it is
 success-home : (call : Call) (disk : Disk) (b : ℕ) → IsLogCall call → after_success call disk Home b ≡ disk Home b
 success-home (Write Log n v) disk b log = refl
 success-home (Write Home n v) disk b log = cc
 success-home (Flush Log) disk b log = refl
 success-home (Flush Home) disk b log = cc
 
--- and where it fails
+-- a log call that fails leaves home as it is
 pub fault-same : (call : Call) (old new : Disk) (b : ℕ) → IsLogCall call → IsAfterFault call old new → new Home b ≡ old Home b
 fault-same call old new b log (Undone c x y same) = ap (λ (d : Disk). d Home b) same
 fault-same (Write Log n v) old new b log (Whole a m w x y same) = ap (λ (d : Disk). d Home b) same
@@ -51,7 +51,7 @@ step-home old new disk after step = record {
   same = λ b. ap (λ (d : Disk). d Home b) step.disk_is ∙ success-home step.call disk b (log-calls old old.stage step.call step.due);
 }
 
--- so does one that fails
+-- a failed step of a commit keeps home as it was
 pub fault-home : (old new : Engine) (disk after : Disk) → CommitFaults old disk new after → KeepsHome disk after
 fault-home old new disk after fault = record {
   same = λ b. fault-same fault.call disk after b (log-calls old old.stage fault.call fault.due) fault.disk_is;

@@ -1,4 +1,4 @@
--- Every image that a crash of a sound disk may leave opens, to the committed transactions or to one more.
+-- Every crash image of a sound disk opens to the committed transactions or one more.
 use Rattle.std.proofs.Common.{◌≡◌, inl, inr, ℕ, ◌+◌, ◌-◌, ◌<◌, ◌≤◌, false, true≢false, List, ◌++◌, length, length-append, length-drop, take, drop, arith, refl, sym, ◌∙◌, subst, ap}
 use Rattle.std.proofs.lemmas.Bool.{cases_eq, cases_lt}
 use Rattle.journal_model.specs.declared.number.Area.TheVariants.{Log, Home}
@@ -25,14 +25,14 @@ use Rattle.journal_world.proofs.Positions.{between_blocks, committed-few, first-
 use Rattle.journal_world.proofs.Suffixes.{all-drop, batches-drop, numbered-drop}
 use Rattle.journal_world.proofs.Texts.{block-behind, committed-more, due-more}
 
--- what block 0 of an image says: that the log is clean, and then nothing was handed over; or where it begins, and then
--- the transactions before are home
+-- block 0 of an image is a clean log's, and nothing was handed over; or it names the first transaction, and earlier ones are
+-- home
 data Found (e : Engine) (disk : Disk) (v : List ℕ) : Type 0 where
   FindsNothing : NamesNothing e.shape e.layout e.ring e.first v → e.committed ≡ 0 → handed e.stage (length (due_blocks e)) ≡ 0 → Found e disk v
   FindsTail : (r : ℕ) → e.released ≤ r → r ≤ e.committed → BeginsAt e.shape e.layout e.ring (e.first + r) (position e r) v → HomeHas e disk r →
       Found e disk v
 
--- where the log is not started nothing is committed, and nothing of the transaction that is due was handed over
+-- if the log is not started, nothing is committed or handed over
 clean-unstarted : (e : Engine) (stage : Stage) → StageAgrees e stage → e.started ≡ false →
     (e.committed ≡ 0) × (handed stage (length (due_blocks e)) ≡ 0)
 clean-unstarted e Idle agrees clean = (agrees.1 clean, refl)
@@ -42,19 +42,19 @@ clean-unstarted e (Blocks k) agrees clean = absurd (true≢false (sym agrees.1 �
 clean-unstarted e CommitWrite agrees clean = absurd (true≢false (sym agrees.1 ∙ clean))
 clean-unstarted e CommitFlush agrees clean = absurd (true≢false (sym agrees.1 ∙ clean))
 
--- so it is where its first superblock is not flushed
+-- the same if its first superblock is not flushed
 clean-unflushed : (e : Engine) (stage : Stage) → StageAgrees e stage → stage ≡ SuperblockFlush →
     (e.committed ≡ 0) × (handed stage (length (due_blocks e)) ≡ 0)
 clean-unflushed e stage agrees flush =
     let flushes : StageAgrees e SuperblockFlush = subst (StageAgrees e) flush agrees in
     (flushes.2, ap (λ (s : Stage). handed s (length (due_blocks e))) flush)
 
--- where a round moves the tail, its transactions are home
+-- if a round moves the tail, its transactions are home
 moved-home : (e : Engine) (disk : Disk) → MovesTail e → RoundHolds e disk e.round → HomeHas e disk e.bound
 moved-home e disk (inl writes) holds = subst (RoundHolds e disk) writes holds
 moved-home e disk (inr flushes) holds = (subst (RoundHolds e disk) flushes holds).0
 
--- what block 0 says
+-- block 0 of an image says one of these
 found : (e : Engine) (disk : Disk) (v : List ℕ) → Sound e disk → MayBeSuperblock e v → Found e disk v
 found e disk v sound (Clean (inl clean) names) =
     let both = clean-unstarted e e.stage sound.plain.stage clean in FindsNothing names both.0 both.1
@@ -70,7 +70,7 @@ found e disk v sound (New moves names) =
     (subst (λ p. BeginsAt e.shape e.layout e.ring (e.first + e.bound) p v) sound.plain.bound_position names)
     (moved-home e disk moves sound.round)
 
--- the log of the image has the texts of transactions r to n, and behind them, in the lap from the tail on, nothing that is due
+-- the log of the image has the texts of transactions r to n, and nothing due after them
 record HoldsFirst (e : Engine) (image : Image) (r n : ℕ) : Type 0 where
   committed : e.committed ≤ n
   few : n ≤ length e.accepted
@@ -84,21 +84,21 @@ module _ (e : Engine) (disk : Disk) (image : Image) (sound : Sound e disk) (leav
   layout-left : IsLayout e.layout
   layout-left = sound.plain.layout.0
 
-  -- the log begins behind what is released
+  -- the log begins at or after the tail
   tail-below : e.tail ≤ position e r
   tail-below =
       let tail : e.tail ≡ position e e.released = sound.plain.tail in
       let rises : position e e.released ≤ position e r = position-grows e e.released r low in
       omega arith
 
-  -- and not behind what is committed
+  -- the log does not begin after the committed transactions
   start-above : position e r ≤ e.start
   start-above =
       let start : e.start ≡ position e e.committed = sound.plain.start in
       let rises : position e r ≤ position e e.committed = position-grows e r e.committed high in
       omega arith
 
-  -- the texts stand at their positions, from that of the first on
+  -- the texts stand at their positions, from the first on
   front-left : (m : ℕ) → HoldsFirst e image r (r + m) → (k : ℕ) → k < length (between_blocks e r m) →
       image Log (ring_place e.ring (position e r + k)) ≡ block_at (between_blocks e r m) k
   front-left m holds k within =
@@ -107,7 +107,7 @@ module _ (e : Engine) (disk : Disk) (image : Image) (sound : Sound e disk) (leav
       ∙ ap (λ (bs : List (List ℕ)). block_at bs (position e r + k)) (first-split e r m)
       ∙ block-behind (first_blocks e r) (between_blocks e r m) (position e r + k) k refl
 
-  -- behind them nothing is due, as far as the lap goes
+  -- nothing due follows them within the lap
   rest-left : (m : ℕ) → HoldsFirst e image r (r + m) → (k : ℕ) → length (between_blocks e r m) ≤ k → k < e.ring.blocks →
       IsNotDue e.layout e.shape.home_blocks (e.first + (r + m)) (image Log (ring_place e.ring (position e r + k)))
   rest-left m holds k behind within =
@@ -122,7 +122,7 @@ module _ (e : Engine) (disk : Disk) (image : Image) (sound : Sound e disk) (leav
             (record { below = λ magic. let least = b.below magic in omega arith })
       ]
 
-  -- so the log has the texts of the batches behind the first r of them
+  -- the log has the texts of the batches after the first r
   texts-left : (m : ℕ) → HoldsFirst e image r (r + m) →
       HoldsTexts e.layout e.shape e.ring image (position e r) (texts_of e.layout e.uuid (take m (drop r e.accepted))) (e.first + r + m)
   texts-left m holds =
@@ -140,7 +140,7 @@ module _ (e : Engine) (disk : Disk) (image : Image) (sound : Sound e disk) (leav
         each = λ k h. let b = each-left e disk image sound leaves layout-left k h in record { below = λ magic. let least = b.below magic in omega arith };
       }
 
-  -- and their replay is what an opening makes of the image
+  -- their replay is what an opening makes of the image
   chain-left : (m : ℕ) → HoldsFirst e image r (r + m) → ChainOpens e.shape image (drop r e.accepted) m (e.first + r + m)
   chain-left m holds =
       let few : r + m ≤ length e.accepted = holds.few in
@@ -151,7 +151,7 @@ module _ (e : Engine) (disk : Disk) (image : Image) (sound : Sound e disk) (leav
       (all-drop (IsBatch e.layout e.shape) r e.accepted sound.plain.batches) (numbered-drop e.first r e.accepted sound.plain.numbered)
       (omega arith) (omega arith) (texts-left m holds)
 
-  -- so it opens to these and the r before, which are home
+  -- the image opens to these and the r earlier ones, which are home
   opens-sum : (m : ℕ) → HoldsFirst e image r (r + m) → OpensTo e.shape e.accepted image (r + m)
   opens-sum m holds =
       let most : e.committed ≤ r + m = holds.committed in
@@ -170,14 +170,14 @@ module _ (e : Engine) (disk : Disk) (image : Image) (sound : Sound e disk) (leav
         };
       }
 
-  -- in particular to as many as its log has texts up to
+  -- the image opens to the number of texts in its log
   opens-first : (n : ℕ) → HoldsFirst e image r n → OpensTo e.shape e.accepted image n
   opens-first n holds =
       let most : e.committed ≤ n = holds.committed in
       let sum : r + (n - r) ≡ n = omega arith in
       subst (λ c. OpensTo e.shape e.accepted image c) sum (opens-sum (n - r) (subst (λ c. HoldsFirst e image r c) (sym sum) holds))
 
-  -- where no commit block is left, the log has the committed transactions
+  -- without the commit block, the log has the committed transactions
   holds-before : HasNoCommit e image → HoldsFirst e image r e.committed
   holds-before part =
       let start : e.start ≡ position e e.committed = sound.plain.start in
@@ -194,7 +194,7 @@ module _ (e : Engine) (disk : Disk) (image : Image) (sound : Sound e disk) (leav
         ];
       }
 
-  -- where it is left, the log has one transaction more
+  -- with the commit block, the log has one more transaction
   holds-behind : AreDurable e disk → HasCommit e image → HoldsFirst e image r (e.committed + 1)
   holds-behind durable own =
       let start : e.start ≡ position e e.committed = sound.plain.start in
@@ -217,15 +217,15 @@ module _ (e : Engine) (disk : Disk) (image : Image) (sound : Sound e disk) (leav
             (record { below = λ magic. let least = b.below magic in omega arith });
       }
 
-  -- the image opens to a number of transactions from the committed ones to all
+  -- the image opens to a number from the committed transactions to all
   abbrev OpensWithin : Type 0
   OpensWithin = (n : ℕ) × (e.committed ≤ n) × (n ≤ length e.accepted) × OpensTo e.shape e.accepted image n
 
-  -- it does where its log has the transactions up to that number
+  -- it opens so if its log has the transactions up to that number
   within-holds : (n : ℕ) → HoldsFirst e image r n → OpensWithin
   within-holds n holds = (n, holds.committed, holds.few, opens-first n holds)
 
-  -- so it does where all but the commit block is durable
+  -- it opens so if all but the commit block is durable
   within-ending : AreDurable e disk → OpensWithin
   within-ending durable =
       let room : e.start + length (due_blocks e) ≤ e.tail + e.ring.blocks = sound.plain.room in
@@ -238,7 +238,7 @@ module _ (e : Engine) (disk : Disk) (image : Image) (sound : Sound e disk) (leav
             ]
       ]
 
-  -- and at each point of a commit
+  -- it opens so at each point of a commit
   within-progress : Progress e disk e.stage → OpensWithin
   within-progress (Before least) = within-holds e.committed (holds-before (part-before e disk image sound leaves least))
   within-progress (Ending durable) = within-ending durable
@@ -266,7 +266,7 @@ within-found e disk image sound leaves (FindsNothing names none unhanded) = (
   clean-opens e.shape e.ring e.first e.accepted image names (clean-left e disk image sound leaves none unhanded) sound.plain.numbered,
 )
 
--- every image that a crash of a sound disk may leave opens
+-- every crash image of a sound disk opens
 pub images-open : (e : Engine) (disk : Disk) → Sound e disk → OpensBetween e.shape e.accepted e.committed (length e.accepted) disk
 images-open e disk sound = record {
   each = λ image leaves. within-found e disk image sound leaves (found e disk (image Log 0) sound (sound.superblock (image Log 0) (leaves.each Log 0)));

@@ -1,4 +1,4 @@
--- What commits leave as it is: what the superblock names, what is durable at home, and what a checkpoint round relies on.
+-- What commits leave: what the superblock names, what is durable at home, and what a round relies on.
 use Rattle.std.proofs.Common.{sym, ◌∙◌, ap, arith}
 use Rattle.std.specs.Prelude.{◌≡◌, ℕ, ◌<◌, ◌≤◌, Bool, true, false, List, slice_get}
 use Rattle.journal_model.specs.declared.entry.Batch.{Batch}
@@ -12,12 +12,12 @@ use Rattle.journal_world.specs.Engine.{Engine}
 use Rattle.journal_world.specs.Sound.{HomeHas, KeepsHome, MayBeClean, MayBeSuperblock, Names, NamesStarted, RoundAgrees, RoundHolds}
 use Rattle.journal_world.specs.Sound.MayBeSuperblock.{Clean, Old, New}
 
--- the engine with its commits as far as this
+-- the engine with its commits at this point
 abbrev pub progressed : Engine → List Batch → ℕ → ℕ → Stage → Bool → Engine
 progressed e accepted committed start stage aborted =
     record e { accepted = accepted; committed = committed; start = start; stage = stage; aborted = aborted }
 
--- what is named once the log has begun is the same
+-- a started log's superblock names the same
 started-kept : (e : Engine) (accepted : List Batch) (committed start : ℕ) (stage : Stage) (aborted : Bool) (round : Round) (v : List ℕ) →
     NamesStarted e round v → NamesStarted (progressed e accepted committed start stage aborted) round v
 started-kept e accepted committed start stage aborted NoRound v names = names
@@ -53,7 +53,7 @@ pub record HasThose (e : Engine) (accepted : List Batch) (committed : ℕ) : Typ
   pub more : e.committed ≤ committed
 
 module _ (e : Engine) (accepted : List Batch) (committed start : ℕ) (stage : Stage) (aborted : Bool) (those : HasThose e accepted committed) where
-  -- the newest copy of a block among more transactions is the newest among those before them
+  -- a newest copy with more committed transactions was the newest among the earlier ones
   pub newest-before : (i b : ℕ) (v : List ℕ) → i < e.committed → IsNewestCopy (progressed e accepted committed start stage aborted) i b v →
       IsNewestCopy e i b v
   newest-before i b v below newest =
@@ -68,7 +68,7 @@ module _ (e : Engine) (accepted : List Batch) (committed start : ℕ) (stage : S
         last = λ j later low high stands touches. newest.last j later low (omega arith) (those.same j high ∙ stands) touches;
       }
 
-  -- so is one that is pending
+  -- a pending copy with more transactions committed was pending
   pub pending-before : (i b : ℕ) (v : List ℕ) → i < e.committed → IsPending (progressed e accepted committed start stage aborted) i b v → IsPending e i b v
   pending-before i b v below pending = record { newest = newest-before i b v below pending.newest; unreleased = pending.unreleased }
 

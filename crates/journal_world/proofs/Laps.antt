@@ -3,12 +3,12 @@ use Rattle.std.proofs.Common.{◌≡◌, ℕ, zero, suc, ◌+◌, ◌-◌, ◌<�
 use Rattle.std.specs.List.{AllByRecursion, range_with_len, slice_get}
 use Rattle.std.specs.Prelude.{unwrap_or}
 
--- what holds of the value at each number of a range holds of each value
+-- what holds at each number of a range holds of each value
 pub all-range : {X : Type 0} (P : X → Type 0) (f : ℕ → X) (a n : ℕ) → ((k : ℕ) → a ≤ k → k < a + n → P (f k)) → AllByRecursion P (map f (range_with_len a n))
 all-range P f a zero each = tt
 all-range P f a (suc n) each = (each a (omega arith) (omega arith), all-range P f (a + 1) n (λ k low high. each k (omega arith) (omega arith)))
 
--- the values on a range begin with a list that has them at its places
+-- values on a range begin with a list that has them at its places
 pub range-front : {X : Type 0} (d : X) (f : ℕ → X) (xs : List X) (a n : ℕ) → length xs ≤ n →
     ((k : ℕ) → k < length xs → f (a + k) ≡ unwrap_or (slice_get xs k) d) →
     map f (range_with_len a n) ≡ xs ++ map f (range_with_len (a + length xs) (n - length xs))

@@ -1,5 +1,4 @@
--- The last effect of transactions on a block is the last entry of it in their batches; and home has it, where it is
--- a copy that was released.
+-- The last effect on a block is its last entry in the batches; home has it, if it is a released copy.
 use Rattle.std.proofs.Common.{◌≡◌, ◌⊎◌, inl, inr, ℕ, zero, suc, ◌+◌, ◌-◌, ◌<◌, ◌≤◌, List, [], ◌∷◌, map, take, drop, Option, Some, None, arith, refl, sym, ◌∙◌, subst, ap, ap₂}
 use Rattle.std.specs.List.{Contains, slice_get}
 use Rattle.std.proofs.lemmas.Bool.{cases_lt}
@@ -36,12 +35,12 @@ none-entered b ss es are none m =
     let made = touched-effect b ss (subst (λ bs. Contains bs b) blocks m) in
     none-some made.0 (sym none ∙ made.1)
 
--- where the later of two is nothing, both are
+-- if the later of two effects is nothing, so are both
 pub none-both : (x y : Option Entry) → later x y ≡ None → (x ≡ None) × (y ≡ None)
 none-both x None none = (none, refl)
 none-both x (Some f) none = absurd (none-some f (sym none))
 
--- no batch of transactions without an effect on a block has an entry of it
+-- transactions without an effect on a block have no entry of it
 pub none-in : (b : ℕ) (ts : History) (bs : List Batch) → AreBatchesOf ts bs → last_effect b ts ≡ None →
     (j : ℕ) (batch : Batch) → slice_get bs j ≡ Some batch → Contains (map (λ p. p.0) batch.entries) b → ⊥
 none-in b [] [] are none j batch stands m = none-some batch stands
@@ -53,14 +52,14 @@ none-in b (t ∷ ts) (c ∷ bs) are none zero batch stands m =
 none-in b (t ∷ ts) (c ∷ bs) are none (suc j) batch stands m =
     none-in b ts bs are.2 (none-both (effect b t.steps) (last_effect b ts) none).1 j batch stands m
 
--- batch i has this entry of block b, and no later batch has one
+-- batch i has this entry of block b, the last one
 pub record IsLastIn (bs : List Batch) (b i : ℕ) (f : Entry) : Type 0 where
   pub batch : Batch
   pub stands : slice_get bs i ≡ Some batch
   pub entry : Contains batch.entries (b, f)
   pub last : (j : ℕ) (other : Batch) → i < j → slice_get bs j ≡ Some other → Contains (map (λ p. p.0) other.entries) b → ⊥
 
--- the effect of the first transaction is the last entry where the others have none
+-- the first transaction's effect is the last entry, if the others have none
 last-first : (b : ℕ) (ss : List Step) (ts : History) (c : Batch) (bs : List Batch) (f : Entry) → c.entries ≡ entries ss → AreBatchesOf ts bs →
     effect b ss ≡ Some f → last_effect b ts ≡ None → IsLastIn (c ∷ bs) b 0 f
 last-first b ss ts c bs f are rest made none = record {
@@ -73,7 +72,7 @@ last-first b ss ts c bs f are rest made none = record {
   ];
 }
 
--- the last entry of all but the first batch is the last one of all
+-- the last entry of the later batches is the last one of all
 last-behind : (b i : ℕ) (c : Batch) (bs : List Batch) (f : Entry) → IsLastIn bs b i f → IsLastIn (c ∷ bs) b (suc i) f
 last-behind b i c bs f l = record {
   batch = l.batch;
@@ -85,7 +84,7 @@ last-behind b i c bs f l = record {
   ];
 }
 
--- the last effect of transactions on a block is the last entry of it in their batches
+-- the last effect on a block is the last entry of it in the batches
 pub last-in : (b : ℕ) (ts : History) (bs : List Batch) (f : Entry) → AreBatchesOf ts bs → last_effect b ts ≡ Some f → (i : ℕ) × IsLastIn bs b i f
 last-in b [] bs f are made = absurd (none-some f made)
 last-in b (t ∷ ts) [] f are made = absurd are
@@ -100,7 +99,7 @@ last-in b (t ∷ ts) (c ∷ bs) f are made =
     ]
 
 module _ (e : Engine) (r m : ℕ) (ts : History) (are : AreBatchesOf ts e.accepted) where
-  -- an entry among the first r + m batches is not behind the first r where those between have none
+  -- the last entry is among the first r, if the next m have none
   last-before : (b i : ℕ) (f : Entry) → last_effect b (take m (drop r ts)) ≡ None → IsLastIn (take (r + m) e.accepted) b i f → i < r
   last-before b i f none l =
       elim (cases_lt i r) [
@@ -115,7 +114,7 @@ module _ (e : Engine) (r m : ℕ) (ts : History) (are : AreBatchesOf ts e.accept
             none (i - r) l.batch there (entry-block l.batch.entries b f l.entry))
       ]
 
-  -- so a copy that is the last effect of the first r transactions, and none behind, is the newest copy of its block
+  -- a copy of the first r transactions, with no later effect, is the newest of its block
   pub newest-left : (b i : ℕ) (v : List ℕ) → r ≤ e.committed → e.committed ≤ r + m → i < r →
       IsLastIn (take (r + m) e.accepted) b i (Copy v) → IsNewestCopy e i b v
   newest-left b i v least most below l = record {
@@ -128,7 +127,7 @@ module _ (e : Engine) (r m : ℕ) (ts : History) (are : AreBatchesOf ts e.accept
     last = λ j other low high stands has. l.last j other low (get-take (r + m) e.accepted j (omega arith) ∙ stands) has;
   }
 
-  -- home has it durable, where the first r transactions are home
+  -- home has it durable, if the first r transactions are home
   made-home : (disk : Disk) (b : ℕ) (v : List ℕ) → HomeHas e disk r → r ≤ e.committed → e.committed ≤ r + m →
       last_effect b (take r ts) ≡ Some (Copy v) → last_effect b (take m (drop r ts)) ≡ None → disk Home b ≡ durable_cell v
   made-home disk b v home least most made none =
@@ -145,7 +144,7 @@ home-left disk image b v leaves durable = only (subst (λ (c : Cell). IsOneOf (h
     only (inl is) = is
     only (inr none) = absurd none
 
--- the bytes that the later of two effects leaves are those that the second leaves, where home has what the first copies
+-- the later of two effects leaves the second's bytes, if home has what the first copies
 bytes-later : (x y : Option Entry) (home : List ℕ) → ((v : List ℕ) → x ≡ Some (Copy v) → y ≡ None → home ≡ v) →
     bytes_of (content_of y) home ≡ bytes_of (content_of (later x y)) home
 bytes-later x (Some f) home has = refl
@@ -153,7 +152,7 @@ bytes-later None None home has = refl
 bytes-later (Some Revoke) None home has = refl
 bytes-later (Some (Copy v)) None home has = has v refl refl
 
--- so what the transactions behind the first r leave of home is what all of them leave, where the first r are home
+-- if the first r transactions are home, the later ones leave the same home as all
 pub bytes-left : (e : Engine) (disk : Disk) (image : Image) (r m : ℕ) (ts : History) (b : ℕ) → Leaves disk image → HomeHas e disk r →
     r ≤ e.committed → e.committed ≤ r + m → AreBatchesOf ts e.accepted →
     bytes_of (content_of (last_effect b (take m (drop r ts)))) (image Home b) ≡ bytes_of (content_of (last_effect b (take (r + m) ts))) (image Home b)

@@ -20,11 +20,11 @@ use Rattle.journal_world.proofs.Places.{held-durable}
 use Rattle.journal_world.proofs.Positions.{committed-few}
 use Rattle.journal_world.proofs.Texts.{block-behind, block-front, block-there}
 
--- the blocks of the transaction that is being committed are durable, all but its commit block
+-- the blocks of the transaction being committed are durable, except its commit block
 abbrev pub AreDurable : Engine → Disk → Type 0
 AreDurable e disk = (j : ℕ) → j + 1 < length (due_blocks e) → IsDurable e disk (e.start + j) (block_at (due_blocks e) j)
 
--- how far a commit is: the commit block was not handed over, or all other blocks are durable
+-- the commit block was not handed over, or all other blocks are durable
 pub data Progress (e : Engine) (disk : Disk) (stage : Stage) : Type 0 where
   Before : handed stage (length (due_blocks e)) ≤ length (due_blocks e) - 1 → Progress e disk stage
   Ending : AreDurable e disk → Progress e disk stage
@@ -44,33 +44,33 @@ pub durable-left : (e : Engine) (disk : Disk) (image : Image) (k : ℕ) (v : Lis
 durable-left e disk image k v leaves durable =
     held-durable disk (ring_place e.ring k) v (image Log (ring_place e.ring k)) durable (leaves.each Log (ring_place e.ring k))
 
--- what an image has at a position is behind the number that is due, or is a block that is due and not the last of these
+-- a block below the due number, or a due block that is not the last
 abbrev pub IsPartial : Engine → List ℕ → Type 0
 IsPartial e v = IsBehind (e.first + e.committed) v ⊎ ((i : ℕ) × (slice_get (due_blocks e) i ≡ Some v) × (i + 1 < length (due_blocks e)))
 
--- the position where the commit block that is due belongs
+-- the position of the due commit block
 abbrev pub place_of_commit : Engine → ℕ
 place_of_commit e = e.start + (length (due_blocks e) - 1)
 
--- the image has the block of its own where the commit block that is due belongs
+-- the image has the due commit block at its position
 abbrev pub HasCommit : Engine → Image → Type 0
 HasCommit e image = IsOwnBlock e (place_of_commit e) (image Log (ring_place e.ring (place_of_commit e)))
 
--- at each position of the lap behind the committed transactions it has none that is due and the last
+-- after the committed transactions the lap has no due commit block
 abbrev pub HasNoCommit : Engine → Image → Type 0
 HasNoCommit e image = (k : ℕ) → e.start ≤ k → k < e.tail + e.ring.blocks → IsPartial e (image Log (ring_place e.ring k))
 
 module _ (e : Engine) (disk : Disk) (image : Image) (sound : Sound e disk) (leaves : Leaves disk image) where
-  -- what a crash leaves behind the committed transactions
+  -- what a crash leaves after the committed transactions is below the due number, or an own block
   pub behind-left : (k : ℕ) → e.start ≤ k → k < e.tail + e.ring.blocks →
       IsBehind (e.first + e.committed) (image Log (ring_place e.ring k)) ⊎ IsOwnBlock e k (image Log (ring_place e.ring k))
   behind-left k low high = sound.behind k (image Log (ring_place e.ring k)) low high (leaves.each Log (ring_place e.ring k))
 
-  -- the committed transactions that are not released are left whole
+  -- the committed unreleased transactions are left whole
   pub committed-left : (k : ℕ) → e.tail ≤ k → k < e.start → image Log (ring_place e.ring k) ≡ block_at (texts_blocks (committed_texts e)) k
   committed-left k low below = durable-left e disk image k (block_at (texts_blocks (committed_texts e)) k) leaves (sound.durable k low below)
 
-  -- so each block of them is behind the number that is due
+  -- each of their blocks is below the due number
   past-left : IsLayout e.layout → (k : ℕ) → e.tail ≤ k → k < e.start →
       IsBehind (e.first + e.committed) (image Log (ring_place e.ring k))
   past-left layout k low below =
@@ -81,14 +81,14 @@ module _ (e : Engine) (disk : Disk) (image : Image) (sound : Sound e disk) (leav
       (block-there (texts_blocks (committed_texts e)) k (omega arith)) in
       subst (IsBehind (e.first + e.committed)) (sym (committed-left k low below)) b
 
-  -- those between the tail and a position behind it stand once more behind the lap from the tail on
+  -- those between the tail and a position stand again one lap later
   pub around-left : IsLayout e.layout → (k : ℕ) → e.tail + e.ring.blocks ≤ k → k < e.start + e.ring.blocks →
       IsBehind (e.first + e.committed) (image Log (ring_place e.ring k))
   around-left layout k low high =
       subst (λ (p : ℕ). IsBehind (e.first + e.committed) (image Log p)) (sym (place-around e.ring k (omega arith)))
       (past-left layout (k - e.ring.blocks) (omega arith) (omega arith))
 
-  -- no block of the lap from the tail on is numbered above the transaction that is due
+  -- no block of the lap is numbered above the due transaction
   lap-left : IsLayout e.layout → (k : ℕ) → e.tail ≤ k → k < e.tail + e.ring.blocks →
       IsBehind (e.first + e.committed + 1) (image Log (ring_place e.ring k))
   lap-left layout k low high =
@@ -104,13 +104,13 @@ module _ (e : Engine) (disk : Disk) (image : Image) (sound : Sound e disk) (leav
             ]
       ]
 
-  -- so no ring block is
+  -- no ring block is numbered above the due transaction
   pub each-left : IsLayout e.layout → (j : ℕ) → j < e.ring.blocks →
       IsBehind (e.first + e.committed + 1) (image Log (ring_place e.ring j))
   each-left layout j within =
       each-around e.ring (λ p. IsBehind (e.first + e.committed + 1) (image Log p)) e.tail (lap-left layout) j within
 
-  -- the blocks that are due are left whole, where all but the commit block are durable and the image has that too
+  -- the due blocks are left whole, if the image has the commit block and the others are durable
   pub due-left : AreDurable e disk → HasCommit e image → (j : ℕ) → j < length (due_blocks e) →
       image Log (ring_place e.ring (e.start + j)) ≡ block_at (due_blocks e) j
   due-left durable own j within =
@@ -125,7 +125,7 @@ module _ (e : Engine) (disk : Disk) (image : Image) (sound : Sound e disk) (leav
             ∙ ap (block_at (due_blocks e)) index
       ]
 
-  -- so the log goes on with the text of one transaction more
+  -- then the log goes on with one more text
   pub more-left : ((j : ℕ) → j < length (due_blocks e) → image Log (ring_place e.ring (e.start + j)) ≡ block_at (due_blocks e) j) →
       (k : ℕ) → e.tail ≤ k → k < length (texts_blocks (committed_texts e) ++ due_blocks e) →
       image Log (ring_place e.ring k) ≡ block_at (texts_blocks (committed_texts e) ++ due_blocks e) k
@@ -141,7 +141,7 @@ module _ (e : Engine) (disk : Disk) (image : Image) (sound : Sound e disk) (leav
             ∙ sym (block-behind (texts_blocks (committed_texts e)) (due_blocks e) k (k - length (texts_blocks (committed_texts e))) (omega arith))
       ]
 
-  -- behind it nothing is due
+  -- each block after it is below the due number
   pub more-rest : (k : ℕ) → e.start + length (due_blocks e) ≤ k → k < e.tail + e.ring.blocks →
       IsBehind (e.first + e.committed) (image Log (ring_place e.ring k))
   more-rest k low high =
@@ -153,7 +153,7 @@ module _ (e : Engine) (disk : Disk) (image : Image) (sound : Sound e disk) (leav
             absurd (omega arith)
       ]
 
-  -- an own block is handed over, so it is not the last where the commit block is not
+  -- without the commit block handed over, no own block is the last
   pub part-before : handed e.stage (length (due_blocks e)) ≤ length (due_blocks e) - 1 → HasNoCommit e image
   part-before least k low high =
       elim (behind-left k low high) [
@@ -161,7 +161,7 @@ module _ (e : Engine) (disk : Disk) (image : Image) (sound : Sound e disk) (leav
         | inr o ↦ let handed_over = o.handed_over in inr (o.index, o.block, omega arith)
       ]
 
-  -- nor is it where the image has something else at the place of the commit block
+  -- nor with something else at the commit block's place
   pub part-without : IsBehind (e.first + e.committed) (image Log (ring_place e.ring (place_of_commit e))) → HasNoCommit e image
   part-without none k low high =
       elim (behind-left k low high) [
@@ -175,7 +175,7 @@ module _ (e : Engine) (disk : Disk) (image : Image) (sound : Sound e disk) (leav
             ]
       ]
 
-  -- nor where nothing is due
+  -- nor if no block is due
   pub part-none : length (due_blocks e) ≡ 0 → HasNoCommit e image
   part-none none k low high =
       elim (behind-left k low high) [

@@ -1,4 +1,4 @@
--- A block that is left to home stays so, whatever the engine does, while no batch that it takes has an entry of the block.
+-- A block stays left to home while the engine takes no batch with an entry of it.
 use Rattle.std.proofs.Common.{sym, ◌∙◌, ap, subst, arith, inl, inr, ⊎_elim}
 use Rattle.std.specs.Prelude.{◌≡◌, ◌⊎◌, ℕ, zero, suc, ◌≤◌, List, [], ◌∷◌, ◌++◌, map, Some, slice_get, Contains}
 use Rattle.std.proofs.lemmas.Bool.{cases_lt}
@@ -18,7 +18,7 @@ push-cases [] y (suc j) x stands = absurd (none-some x stands)
 push-cases (z ∷ xs) y zero x stands = inl stands
 push-cases (z ∷ xs) y (suc j) x stands = push-cases xs y j x stands
 
--- an engine that takes a batch without an entry of a block leaves the block to home as before
+-- a batch without an entry of a block leaves it to home
 pub left-taken : (old new : Engine) (c : Batch) (b : ℕ) → Accepts old c new → (Contains (map (λ p. p.0) c.entries) b → ⊥) → IsLeftToHome old b → IsLeftToHome new b
 left-taken old new c b accepts none left = subst (λ (e : Engine). IsLeftToHome e b) (sym accepts.after) (record {
   none_newest = λ i v newest. ⊎_elim
@@ -34,7 +34,7 @@ left-taken old new c b accepts none left = subst (λ (e : Engine). IsLeftToHome 
       (push-cases old.accepted c j due stands);
 })
 
--- so does one that goes on
+-- an engine that goes on still leaves it to home
 pub left-going : (old new : Engine) (b : ℕ) → GoesOn old new → IsLeftToHome old b → IsLeftToHome new b
 left-going old new b on left =
     let more : old.committed ≤ new.committed = on.committed in

@@ -1,4 +1,4 @@
--- The record of a history's steps is legal, and stays so with each step that a handle makes.
+-- The record of steps stays legal with each step of a handle.
 use Rattle.std.proofs.Common.{refl, sym, ap, subst, ◌∙◌, inl, inr, arith, length-append}
 use Rattle.std.specs.Prelude.{◌≡◌, ◌⊎◌, ℕ, List, [], ◌∷◌, ◌++◌, length, drop, Some, Result, Ok, Err}
 use Rattle.std.proofs.lemmas.List.{append-nil, append_assoc, same_from_push}
@@ -16,14 +16,14 @@ use Rattle.journal_model.specs.Record.{IsLegal, steps_of}
 use Rattle.journal_model.specs.Transaction.{History, Transaction, effect, entry_of, last_effect, later}
 use Rattle.journal_world.specs.Front.{empty_transaction}
 
--- of these steps each read of a block that was written before gave the last write's bytes
+-- each read of a block that these steps wrote gave the last write's bytes
 abbrev AreLegal : List Step → Type 0
 AreLegal ss =
     (before rest : List Step) (h b : ℕ) (v w : List ℕ) →
     ss ≡ before ++ record { handle = h; block = b; op = Read v } ∷ rest →
     effect b before ≡ Some (Copy w) → v ≡ w
 
--- the step is such a read, where it is one
+-- the step is such a read, or no read
 abbrev IsLegalStep : List Step → Step → Type 0
 IsLegalStep ss s = (v w : List ℕ) → s.op ≡ Read v → effect s.block ss ≡ Some (Copy w) → v ≡ w
 
@@ -47,7 +47,7 @@ split-last (x ∷ xs) =
       | inr (more, y, is) ↦ inr (x ∷ more, y, ap (λ l. x ∷ l) is)
     ]
 
--- one step more
+-- one more legal step keeps steps legal
 legal-push : (ss : List Step) (s : Step) → AreLegal ss → IsLegalStep ss s → AreLegal (ss ++ s ∷ [])
 legal-push ss s legal last before rest h b v w split written = by (split-last rest)
   where
@@ -64,7 +64,7 @@ legal-push ss s legal last before rest h b v w split written = by (split-last re
         (split ∙ ap (λ l. before ++ read ∷ l) is ∙ sym (append_assoc before (read ∷ more) (x ∷ []))) in
         legal before more h b v w same.0 written
 
--- the effect of steps, and then of more
+-- the effect of joined steps
 effect-append : (b : ℕ) (xs ys : List Step) → effect b (xs ++ ys) ≡ later (effect b xs) (effect b ys)
 effect-append b [] ys = sym (later-none (effect b ys))
 effect-append b (x ∷ xs) ys =
@@ -75,11 +75,11 @@ last-steps : (b : ℕ) (ts : History) → effect b (steps_of ts) ≡ last_effect
 last-steps b [] = refl
 last-steps b (t ∷ ts) = effect-append b t.steps (steps_of ts) ∙ ap (later (effect b t.steps)) (last-steps b ts)
 
--- the steps of transactions, and of a last one
+-- the steps of a history and of a last transaction
 steps-last : (ts : History) (t : Transaction) → steps_of (ts ++ t ∷ []) ≡ steps_of ts ++ t.steps
 steps-last ts t = flat_map-append (λ x. x.steps) ts (t ∷ []) ∙ ap (λ ss. steps_of ts ++ ss) (append-nil t.steps)
 
--- with one more step in it
+-- the steps of a history with one more step at its end
 steps-more : (ts : History) (t : Transaction) (s : Step) →
     steps_of (ts ++ record t { steps = t.steps ++ s ∷ [] } ∷ []) ≡ steps_of (ts ++ t ∷ []) ++ s ∷ []
 steps-more ts t s =
@@ -95,23 +95,23 @@ legal-empty n before rest h b v w split written =
     let none : 0 ≡ length (before ++ read ∷ rest) = ap (λ (ss : List Step). length ss) split in
     absurd (omega arith)
 
--- a transaction without steps begins behind the others
+-- an empty transaction may follow the others
 pub legal-begin : (ts : History) (n : ℕ) → IsLegal ts → IsLegal (ts ++ empty_transaction n ∷ [])
 legal-begin ts n legal = subst AreLegal (sym (steps-last ts (empty_transaction n) ∙ append-nil (steps_of ts))) legal
 
--- the steps of the last one are the same
+-- a history stays legal if its last transaction has the same steps
 pub legal-same : (ts : History) (t u : Transaction) → u.steps ≡ t.steps → IsLegal (ts ++ t ∷ []) → IsLegal (ts ++ u ∷ [])
 legal-same ts t u same legal =
     subst AreLegal (steps-last ts t ∙ ap (λ ss. steps_of ts ++ ss) (sym same) ∙ sym (steps-last ts u)) legal
 
--- a handle of the last one writes or revokes a block
+-- a history stays legal if a handle writes or revokes a block
 pub legal-touch : (ts : History) (t : Transaction) (s : Step) (e : Entry) → entry_of s.op ≡ Some e → IsLegal (ts ++ t ∷ []) →
     IsLegal (ts ++ record t { steps = t.steps ++ s ∷ [] } ∷ [])
 legal-touch ts t s e leaves legal =
     subst AreLegal (sym (steps-more ts t s)) (legal-push (steps_of (ts ++ t ∷ [])) s legal
     (λ v w is written. absurd (none-some e (sym (ap entry_of is) ∙ leaves))))
 
--- or reads it, and sees what it is to see
+-- a history stays legal if a handle reads the right bytes
 pub legal-read : (ts : History) (t : Transaction) (h b finished : ℕ) (v home : List ℕ) → seen (ts ++ t ∷ []) finished b home ≡ Ok v →
     IsLegal (ts ++ t ∷ []) → IsLegal (ts ++ record t { steps = t.steps ++ record { handle = h; block = b; op = Read v } ∷ [] } ∷ [])
 legal-read ts t h b finished v home sees legal =
@@ -124,7 +124,7 @@ legal-read ts t h b finished v home sees legal =
         let copy : Ok w ≡ Ok v = sym (ap (λ o. answer_of o (last_effect b (drop finished (ts ++ t ∷ []))) home) last) ∙ sees in
         sym (ap bytes_of is) ∙ sym (ap answered copy)
 
--- without the last one
+-- a history stays legal without its last transaction
 pub legal-less : (ts : History) (t : Transaction) → IsLegal (ts ++ t ∷ []) → IsLegal ts
 legal-less ts t legal before rest h b v w split written =
     let read : Step = record { handle = h; block = b; op = Read v } in

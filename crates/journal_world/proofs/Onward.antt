@@ -1,4 +1,4 @@
--- An engine goes on by each call of a commit or a round: its transactions stay, and those that are committed stay so.
+-- An engine goes on by each call: its transactions stay, and committed ones stay committed.
 use Rattle.std.proofs.Common.{refl, sym, ◌∙◌, ap, subst, arith}
 use Rattle.std.specs.Prelude.{◌≡◌, ◌≤◌, true}
 use Rattle.journal_model.specs.Disk.{Disk}
@@ -11,7 +11,7 @@ use Rattle.journal_world.specs.Checkpoint.{RoundCall, RoundFaults, RoundSteps, b
 use Rattle.journal_world.specs.Checkpoint.RoundCall.{CopyHome, FlushHome, WriteTail, FlushTail}
 use Rattle.journal_world.specs.Engine.{CommitFaults, CommitSteps, Engine, stepped_from}
 
--- an engine has the measures and the transactions of another, and has committed as many or more
+-- the engine has the other's measures and transactions, and no fewer committed
 pub record GoesOn (old new : Engine) : Type 0 where
   pub shape : new.shape ≡ old.shape
   pub layout : new.layout ≡ old.layout
@@ -20,11 +20,11 @@ pub record GoesOn (old new : Engine) : Type 0 where
   pub accepted : new.accepted ≡ old.accepted
   pub committed : old.committed ≤ new.committed
 
--- it goes on where it is aborted
+-- an engine that is aborted goes on
 pub aborted-on : (e : Engine) → GoesOn e (record e { aborted = true })
 aborted-on e = record { shape = refl; layout = refl; ring = refl; first = refl; accepted = refl; committed = omega arith }
 
--- it goes on by each call of a commit that succeeds
+-- an engine goes on by each call of a commit that succeeds
 stepped-on : (e : Engine) (stage : Stage) → GoesOn e (stepped_from e stage)
 stepped-on e Idle = record { shape = refl; layout = refl; ring = refl; first = refl; accepted = refl; committed = omega arith }
 stepped-on e SuperblockWrite = record { shape = refl; layout = refl; ring = refl; first = refl; accepted = refl; committed = omega arith }
@@ -33,29 +33,29 @@ stepped-on e (Blocks k) = record { shape = refl; layout = refl; ring = refl; fir
 stepped-on e CommitWrite = record { shape = refl; layout = refl; ring = refl; first = refl; accepted = refl; committed = omega arith }
 stepped-on e CommitFlush = record { shape = refl; layout = refl; ring = refl; first = refl; accepted = refl; committed = omega arith }
 
--- so it does by a step of a commit
+-- an engine goes on by a step of a commit
 pub step-on : (old new : Engine) (disk after : Disk) → CommitSteps old disk new after → GoesOn old new
 step-on old new disk after step = subst (GoesOn old) (sym step.engine) (stepped-on old old.stage)
 
--- by one that fails
+-- an engine goes on by a failed step of a commit
 pub fault-on : (old new : Engine) (disk after : Disk) → CommitFaults old disk new after → GoesOn old new
 fault-on old new disk after fault = subst (GoesOn old) (sym fault.engine) (aborted-on old)
 
--- where a round begins
+-- an engine goes on when a round begins
 begun-on : (e : Engine) (round : Round) → GoesOn e (begun_from e round)
 begun-on e NoRound = record { shape = refl; layout = refl; ring = refl; first = refl; accepted = refl; committed = omega arith }
 begun-on e (Copies transaction block) = record { shape = refl; layout = refl; ring = refl; first = refl; accepted = refl; committed = omega arith }
 begun-on e TailWrite = record { shape = refl; layout = refl; ring = refl; first = refl; accepted = refl; committed = omega arith }
 begun-on e TailFlush = record { shape = refl; layout = refl; ring = refl; first = refl; accepted = refl; committed = omega arith }
 
--- by each call of a round that succeeds
+-- an engine goes on by each call of a round that succeeds
 call-on : (e : Engine) (round : Round) (call : Call) (new : Engine) → RoundCall e round call new → GoesOn e new
 call-on e round call new (CopyHome transaction block i b v next) = record { shape = refl; layout = refl; ring = refl; first = refl; accepted = refl; committed = omega arith }
 call-on e round call new (FlushHome transaction block none) = record { shape = refl; layout = refl; ring = refl; first = refl; accepted = refl; committed = omega arith }
 call-on e round call new WriteTail = record { shape = refl; layout = refl; ring = refl; first = refl; accepted = refl; committed = omega arith }
 call-on e round call new FlushTail = record { shape = refl; layout = refl; ring = refl; first = refl; accepted = refl; committed = omega arith }
 
--- over two of these
+-- an engine goes on over two steps
 on-on : (old mid new : Engine) → GoesOn old mid → GoesOn mid new → GoesOn old new
 on-on old mid new one other =
     let committed : old.committed ≤ mid.committed = one.committed in
@@ -69,11 +69,11 @@ on-on old mid new one other =
       committed = omega arith;
     }
 
--- by a step of a round
+-- an engine goes on by a step of a round
 pub round-on : (old new : Engine) (disk after : Disk) → RoundSteps old disk new after → GoesOn old new
 round-on old new disk after step = on-on old (begun old) new (begun-on old old.round) (call-on (begun old) (begun old).round step.call new step.due)
 
--- and by one that fails
+-- an engine goes on by a failed step of a round
 pub round-fault-on : (old new : Engine) (disk after : Disk) → RoundFaults old disk new after → GoesOn old new
 round-fault-on old new disk after fault =
     let begins : GoesOn old (begun old) = begun-on old old.round in
@@ -87,7 +87,7 @@ round-fault-on old new disk after fault =
       committed = begins.committed;
     })
 
--- a call of a commit that succeeds leaves the mark of a failure as it is
+-- a call of a commit that succeeds leaves `aborted` as it is
 stepped-unfailed : (e : Engine) (stage : Stage) → (stepped_from e stage).aborted ≡ e.aborted
 stepped-unfailed e Idle = refl
 stepped-unfailed e SuperblockWrite = refl
@@ -99,7 +99,7 @@ stepped-unfailed e CommitFlush = refl
 pub step-unfailed : (old new : Engine) (disk after : Disk) → CommitSteps old disk new after → new.aborted ≡ old.aborted
 step-unfailed old new disk after step = ap (λ (e : Engine). e.aborted) step.engine ∙ stepped-unfailed old old.stage
 
--- so does one of a round
+-- the beginning of a round leaves `aborted` as it is
 begun-unfailed : (e : Engine) (round : Round) → (begun_from e round).aborted ≡ e.aborted
 begun-unfailed e NoRound = refl
 begun-unfailed e (Copies transaction block) = refl

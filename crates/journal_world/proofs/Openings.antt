@@ -1,4 +1,4 @@
--- Images that open: a clean log, and a log that has the texts of batches from a position on.
+-- Images that open: a clean log, and a log with the texts of batches.
 use Rattle.std.proofs.Common.{◌≡◌, ℕ, suc, ◌+◌, ◌-◌, ◌<◌, ◌≤◌, List, [], ◌++◌, length, length-take, map, take, arith, refl, sym, ◌∙◌, subst, ap, ap₂}
 use Rattle.std.specs.List.{AllByRecursion, range_with_len}
 use Rattle.std.proofs.lemmas.List.{length-map}
@@ -31,7 +31,7 @@ ring-place : (r : Ring) (place : ℕ) → r.first ≤ place → place < r.first 
 ring-place r place low high =
     place-below r (place - r.first) (omega arith) ∙ omega arith
 
--- where each ring block is behind a number, none is ahead of the one before
+-- if each ring block is below a number, none is ahead of the one before
 none-ahead : (r : Ring) (image : Image) (limit : ℕ) → ((k : ℕ) → k < r.blocks → IsBehind (suc limit) (image Log (ring_place r k))) →
     (place : ℕ) → IsAhead r image limit place → ⊥
 none-ahead r image limit each place a =
@@ -48,7 +48,7 @@ nothing-ahead : {l : Layout} (shape : Shape) (r : Ring) (image : Image) (limit :
     ((k : ℕ) → k < r.blocks → IsBehind (suc limit) (image Log (ring_place r k))) → NothingAhead image limit
 nothing-ahead shape r image limit is each place a = none-ahead r image limit each place (subst (λ x. IsAhead x image limit place) is.ring_is a)
 
--- a clean log whose ring blocks are behind the first number opens to none
+-- a clean log with ring blocks below the first number opens to none
 pub clean-opens : {l : Layout} (shape : Shape) (r : Ring) (first : ℕ) (bs : List Batch) (image : Image) → NamesNothing shape l r first (image Log 0) →
     ((k : ℕ) → k < r.blocks → IsBehind first (image Log (ring_place r k))) → AreNumberedFrom first bs → OpensTo shape bs image 0
 clean-opens shape r first bs image names each numbered =
@@ -71,7 +71,7 @@ clean-opens shape r first bs image names each numbered =
       };
     }
 
--- the log of the image has these texts from a position on; behind them no block is due, and none is above the number next
+-- the log has these texts from a position on, then no due block, and none above the number next
 pub record HoldsTexts (l : Layout) (shape : Shape) (r : Ring) (image : Image) (from : ℕ) (texts : List Text) (next : ℕ) : Type 0 where
   pub fits : length (texts_blocks texts) ≤ r.blocks
   pub front : (k : ℕ) → k < length (texts_blocks texts) → image Log (ring_place r (from + k)) ≡ block_at (texts_blocks texts) k
@@ -83,15 +83,15 @@ pub record HoldsTexts (l : Layout) (shape : Shape) (r : Ring) (image : Image) (f
 abbrev ring_block : Ring → Image → ℕ → ℕ → List ℕ
 ring_block r image from k = image Log (place_from r (ring_place r from) k)
 
--- its place is that of the position so far behind
+-- its place is that of the position k later
 ring-block : (r : Ring) (image : Image) (from k : ℕ) → ring_block r image from k ≡ image Log (ring_place r (from + k))
 ring-block r image from k = ap (image Log) (place-lap r from k)
 
--- the blocks of the lap behind so many
+-- the blocks of the lap after the first k
 abbrev rest_of : Ring → Image → ℕ → ℕ → List (List ℕ)
 rest_of r image from taken = map (ring_block r image from) (range_with_len (0 + taken) (r.blocks - taken))
 
--- the lap from a position on begins with blocks that stand at its places
+-- the lap from a position on begins with the blocks at its places
 lap-split : (r : Ring) (image : Image) (from : ℕ) (blocks : List (List ℕ)) → length blocks ≤ r.blocks →
     ((k : ℕ) → k < length blocks → image Log (ring_place r (from + k)) ≡ block_at blocks k) →
     lap r image (ring_place r from) ≡ blocks ++ rest_of r image from (length blocks)
@@ -100,7 +100,7 @@ lap-split r image from blocks fits front =
     range-front [] (ring_block r image from) blocks 0 r.blocks fits
     (λ k h. ap (ring_block r image from) (omega arith) ∙ ring-block r image from k ∙ front k h)
 
--- none of the blocks behind the texts is due
+-- none of the blocks after the texts is due
 rest-not_due : (l : Layout) (shape : Shape) (r : Ring) (image : Image) (from : ℕ) (texts : List Text) (next : ℕ) → HoldsTexts l shape r image from texts next →
     AllByRecursion (IsNotDue l shape.home_blocks next) (rest_of r image from (length (texts_blocks texts)))
 rest-not_due l shape r image from texts next holds =
@@ -126,7 +126,7 @@ started-tail shape r first from image names =
 some-bytes : (l : Layout) → IsLayout l → 0 < l.number_bytes
 some-bytes l is = let bytes = is.1 in grind arith
 
--- the texts that it holds are its chain, and there is no damage
+-- the texts are its chain, and there is no damage
 holds-chain : (l : Layout) (shape : Shape) (r : Ring) (first from : ℕ) (image : Image) (texts : List Text) → IsLayout l → layout_of (super_of image) ≡ l →
     BeginsAt shape l r first from (image Log 0) → AreTexts l shape.home_blocks first texts → HoldsTexts l shape r image from texts (first + length texts) →
     HasChain shape image texts
@@ -148,14 +148,14 @@ holds-chain l shape r first from image texts is layout names are holds =
           (subst (λ s. IsDamaged (layout_of (super_of image)) shape.home_blocks s blocks k) names.sequence d.damaged));
     }
 
--- the chain of the image ends before the number next, and its replay makes of home what the first n of these batches do
+-- the chain ends before the number next, and its replay does what the first n batches do
 pub record ChainOpens (shape : Shape) (image : Image) (bs : List Batch) (n next : ℕ) : Type 0 where
   pub texts : List Text
   pub has : HasChain shape image texts
   pub limit : (super_of image).s_sequence + length texts ≡ next
   pub opens : (ts : History) → AreBatchesOf ts bs → OpensAs shape image (λ b. bytes_of (content_of (last_effect b (take n ts))) (image Home b))
 
--- so it is with a started log that holds the texts of the first n batches, the first of which it names
+-- a started log with the texts of the first n batches opens so
 pub chain-opens : (l : Layout) (shape : Shape) (r : Ring) (uuid : List ℕ) (first from n : ℕ) (bs : List Batch) (image : Image) →
     IsLayout l → layout_of (super_of image) ≡ l → BeginsAt shape l r first from (image Log 0) → length uuid ≡ uuid_bytes → AllByRecursion (IsBatch l shape) bs → AreNumberedFrom first bs →
     first + length bs ≤ greatest_number + 1 → n ≤ length bs → HoldsTexts l shape r image from (texts_of l uuid (take n bs)) (first + n) →

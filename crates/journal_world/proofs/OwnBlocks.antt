@@ -1,4 +1,4 @@
--- What the blocks of an own text are to a reader who looks for another one.
+-- What a reader who looks for another text finds in an own text.
 use Rattle.std.proofs.Common.{◌≡◌, ℕ, suc, ◌+◌, ◌<◌, Bool, true, false, true≢false, List, [], ◌∷◌, length, map, Some, arith, refl, sym, ◌∙◌, inl, inr}
 use Rattle.std.specs.Prelude.{◌^◌, if◌then◌else◌, drop, All}
 use Rattle.std.specs.List.{AllByRecursion, slice_get}
@@ -24,7 +24,7 @@ use Rattle.journal_world.specs.Opening.{IsBehind}
 pub record IsNumbered (sequence : ℕ) (block : List ℕ) : Type 0 where
   pub number : begins_with_magic block ≡ true → sequence_in block ≡ sequence
 
--- a block of a text of this number that is not its last: it neither ends that text nor is damaged
+-- a block of a text that is not its last: it neither ends the text nor is damage
 pub record IsInner (l : Layout) (count sequence : ℕ) (block : List ℕ) : Type 0 where
   pub numbered : IsNumbered sequence block
   pub due : IsNotDue l count sequence block
@@ -73,7 +73,7 @@ module _ (l : Layout) (count : ℕ) where
         };
       }
 
-  -- nor are copies without the magic
+  -- copies without the magic are none of the log's own
   copies-inner : (sequence : ℕ) (vs : List (List ℕ)) → AllByRecursion (λ v. begins_with_magic v ≡ false) vs → AllByRecursion (IsInner l count sequence) vs
   copies-inner sequence [] plain = tt
   copies-inner sequence (v ∷ vs) plain = (plain-inner sequence v plain.0, copies-inner sequence vs plain.1)
@@ -107,19 +107,19 @@ module _ (l : Layout) (count : ℕ) where
     copies-inner sequence copies plain,
   )
 
-  -- so are the blocks of pieces
+  -- the blocks of pieces are inner ones
   pub pieces-inner : (sequence : ℕ) (ps : List Piece) → AllByRecursion (IsPiece l count sequence) ps → AllByRecursion HasPlainCopies ps →
       AllByRecursion (IsInner l count sequence) (pieces_blocks ps)
   pieces-inner sequence [] are plain = tt
   pieces-inner sequence (p ∷ ps) are plain =
       each-append (IsInner l count sequence) (piece_blocks p) (pieces_blocks ps) (piece-inner sequence p are.0 plain.0) (pieces-inner sequence ps are.1 plain.1)
 
--- a text of this number whose blocks before the last are none that is due
+-- a text of this number whose blocks before the last are inner ones
 pub record IsOwn (l : Layout) (count sequence : ℕ) (t : Text) : Type 0 where
   pub is_text : IsText l count sequence t
   pub inner : AllByRecursion (IsInner l count sequence) (pieces_blocks t.pieces)
 
--- the own text of entries whose blocks may be touched is one
+-- the own text of entries of allowed blocks is one
 pub own-is : (l : Layout) (uuid : List ℕ) (count sequence : ℕ) (entries : List (ℕ × Entry)) →
     IsLayout l → length uuid ≡ uuid_bytes → sequence < 2 ^ 32 → All (λ p. IsAllowedBlock l count p.0) entries →
     IsOwn l count sequence (own_text l uuid sequence entries)
@@ -145,12 +145,12 @@ abbrev pub AreOwn : Layout → ℕ → ℕ → List Text → Type 0
 AreOwn l count sequence [] = Unit {0}
 AreOwn l count sequence (t ∷ ts) = IsOwn l count sequence t × AreOwn l count (suc sequence) ts
 
--- they are texts
+-- own texts are texts
 pub own-texts : (l : Layout) (count sequence : ℕ) (ts : List Text) → AreOwn l count sequence ts → AreTexts l count sequence ts
 own-texts l count sequence [] are = tt
 own-texts l count sequence (t ∷ ts) are = (are.0.is_text, own-texts l count (suc sequence) ts are.1)
 
--- and their blocks are behind the number that is due next
+-- the blocks of own texts are below the next number
 pub own-behind : (l : Layout) (count sequence next : ℕ) (ts : List Text) → next ≡ sequence + length ts → AreOwn l count sequence ts →
     AllByRecursion (IsBehind next) (texts_blocks ts)
 own-behind l count sequence next [] due are = tt

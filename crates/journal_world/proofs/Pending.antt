@@ -1,4 +1,4 @@
--- The newest committed copies: of each block there is one at most.
+-- Each block has at most one newest committed copy.
 use Rattle.std.proofs.Common.{sym, ◌∙◌, ap, subst, arith, inl, inr}
 use Rattle.std.specs.Prelude.{◌≡◌, ℕ, ◌<◌, ◌≤◌, nat_eq, List, [], ◌∷◌, map, slice_get, Contains}
 use Rattle.std.specs.Cmp.{nat_eq_equiv}
@@ -24,12 +24,12 @@ contains-map f (y ∷ xs) x m =
       | inr behind ↦ contains-behind (f y) (map f xs) (f x) (contains-map f xs x behind)
     ]
 
--- entries of different blocks have one for each block
+-- entries of different blocks have one entry for each block
 one-entry : (es : List (ℕ × Entry)) (b : ℕ) (x y : Entry) → IsDistinct nat_eq (map (λ p. p.0) es) → Contains es (b, x) → Contains es (b, y) → x ≡ y
 one-entry es b x y once one other =
     same_Some x y (sym (lookup-from_Contains nat_eq_equiv b x es once one) ∙ lookup-from_Contains nat_eq_equiv b y es once other)
 
--- so they have one copy
+-- entries of different blocks have one copy of each
 one-copy : (es : List (ℕ × Entry)) (b : ℕ) (v w : List ℕ) → IsDistinct nat_eq (map (λ p. p.0) es) → Contains es (b, Copy v) → Contains es (b, Copy w) → v ≡ w
 one-copy es b v w once one other = same_Copy v w (one-entry es b (Copy v) (Copy w) once one other)
   where
@@ -53,20 +53,20 @@ newest-one e i j b v w one other =
           ]
     ]
 
--- the copy of a block in one transaction is of these bytes
+-- one transaction has one copy of a block
 copy-one : (e : Engine) (i b : ℕ) (v w : List ℕ) → IsPlain e → HasCommittedCopy e i b v → HasCommittedCopy e i b w → v ≡ w
 copy-one e i b v w plain one other =
     let same : other.batch ≡ one.batch = same_Some other.batch one.batch (sym other.stands ∙ one.stands) in
     let batch : IsBatch e.layout e.shape one.batch = all-at (IsBatch e.layout e.shape) e.accepted i one.batch plain.batches one.stands in
     one-copy one.batch.entries b v w batch.once one.copy (subst (λ (c : Batch). Contains c.entries (b, Copy w)) same other.copy)
 
--- and its bytes are these
+-- the newest copy of a block has one value
 pub newest-bytes : (e : Engine) (i j b : ℕ) (v w : List ℕ) → IsPlain e → IsNewestCopy e i b v → IsNewestCopy e j b w → v ≡ w
 newest-bytes e i j b v w plain one other =
     let same : i ≡ j = newest-one e i j b v w one other in
     copy-one e i b v w plain one.copy (subst (λ n. HasCommittedCopy e n b w) (sym same) other.copy)
 
--- a copy in a committed transaction is one in each engine that has the same transactions and has committed as many
+-- an engine with the same transactions, and no fewer committed, has the same committed copies
 pub copy-of : (e f : Engine) (i b : ℕ) (v : List ℕ) → f.accepted ≡ e.accepted → e.committed ≤ f.committed → HasCommittedCopy e i b v → HasCommittedCopy f i b v
 copy-of e f i b v accepted committed copy = record {
   batch = copy.batch;
@@ -75,7 +75,7 @@ copy-of e f i b v accepted committed copy = record {
   copy = copy.copy;
 }
 
--- so is the newest one of a block, where no more are committed
+-- an engine with as many committed has the same newest copies
 pub newest-of : (e f : Engine) (i b : ℕ) (v : List ℕ) → f.accepted ≡ e.accepted → f.committed ≡ e.committed → IsNewestCopy e i b v → IsNewestCopy f i b v
 newest-of e f i b v accepted committed newest = record {
   copy = copy-of e f i b v accepted (omega arith) newest.copy;
@@ -83,7 +83,7 @@ newest-of e f i b v accepted committed newest = record {
       newest.last j later behind (omega arith) (ap (λ (bs : List Batch). slice_get bs j) (sym accepted) ∙ stands) has;
 }
 
--- and one that is pending, where as many are released
+-- an engine with as many released has the same pending copies
 pub pending-of : (e f : Engine) (i b : ℕ) (v : List ℕ) → f.accepted ≡ e.accepted → f.committed ≡ e.committed → f.released ≡ e.released →
     IsPending e i b v → IsPending f i b v
 pending-of e f i b v accepted committed released pending = record {

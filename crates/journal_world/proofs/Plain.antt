@@ -1,4 +1,4 @@
--- What the engine keeps true of itself alone, over each of its steps, whatever the disk is.
+-- What the engine keeps true of itself, over each step, on any disk.
 use Rattle.std.proofs.Common.{refl, sym, subst}
 use Rattle.std.specs.Prelude.{◌≡◌, ℕ, ◌+◌, Bool, true, false, nat_lt, if◌then◌else◌, length, Some}
 use Rattle.std.proofs.lemmas.Bool.{ltb-true}
@@ -15,13 +15,13 @@ use Rattle.journal_world.proofs.Committing.{done-plain}
 use Rattle.journal_world.proofs.Starting.{start-plain}
 use Rattle.journal_world.proofs.Texts.{due-some}
 
--- behind block k another block is due, or the commit block alone
+-- the engine stays plain after block k, whichever block is due then
 blocks-plain : (e : Engine) (k : ℕ) (a more : Bool) → IsPlain (at e (Blocks k) a) → nat_lt (k + 1) (length (due_blocks e)) ≡ more →
     IsPlain (at e (if more then Blocks (k + 1) else CommitWrite) a)
 blocks-plain e k a true plain more = plain-at e (Blocks k) (Blocks (k + 1)) a a plain (plain.stage.0, plain.stage.1, ltb-true _ _ more)
 blocks-plain e k a false plain more = plain-at e (Blocks k) CommitWrite a a plain (plain.stage.0, plain.stage.1)
 
--- the step that is due at a stage
+-- the due step of a stage keeps the engine plain
 step-plain-at : (e : Engine) (stage : Stage) (a : Bool) (call : Call) → IsPlain (at e stage a) → call_in (at e stage a) stage ≡ Some call →
     IsPlain (stepped_from (at e stage a) stage)
 step-plain-at e Idle a call plain due = absurd (none-some call due)
@@ -32,11 +32,11 @@ step-plain-at e (Blocks k) a call plain due = blocks-plain e k a (nat_lt (k + 1)
 step-plain-at e CommitWrite a call plain due = plain-at e CommitWrite CommitFlush a a plain (plain.stage.0, plain.stage.1)
 step-plain-at e CommitFlush a call plain due = done-plain e a plain
 
--- a step of a commit
+-- a step of a commit keeps the engine plain
 pub step-plain : (e : Engine) (call : Call) → IsPlain e → call_due e ≡ Some call → IsPlain (stepped e)
 step-plain e call plain due = step-plain-at e e.stage e.aborted call plain due
 
--- a batch that is taken, by whether the superblock says where the log begins
+-- a batch keeps the engine plain, by whether the log is started
 accepts-plain-by : (e : Engine) (started : Bool) (b : Batch) → IsPlain (record e { started = started; stage = Idle }) → MayTake e b →
     IsPlain (accepting (record e { started = started; stage = Idle }) b)
 accepts-plain-by e true b plain may =
@@ -50,7 +50,7 @@ accepts-plain-by e false b plain may =
     (record { number = may.number; left = may.left; batch = may.batch; room = may.room })
     (one, refl, plain.stage.1 refl)
 
--- a batch that is taken
+-- a batch that is taken keeps the engine plain
 pub accepts-plain : (old : Engine) (b : Batch) (new : Engine) → IsPlain old → Accepts old b new → IsPlain new
 accepts-plain old b new plain accepts =
     let idle : IsPlain (record old { stage = Idle }) = subst (λ (s : Stage). IsPlain (record old { stage = s })) accepts.idle plain in

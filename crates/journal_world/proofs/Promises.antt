@@ -1,4 +1,4 @@
--- What an image keeps of the promise: all that was answered, and one thing that an opening makes of it.
+-- An image keeps all that was acknowledged, and opens to one volume.
 use Rattle.std.proofs.Common.{◌≡◌, ℕ, zero, suc, ◌+◌, ◌<◌, ◌≤◌, Bool, true, false, List, [], ◌∷◌, length, arith, sym, ◌∙◌, ap, subst}
 use Rattle.std.specs.Prelude.{nat_le, if◌then◌else◌}
 use Rattle.std.specs.List.{AllByRecursion, list_any}
@@ -19,23 +19,23 @@ use Rattle.journal_world.specs.Engine.{AreBatchesOf}
 use Rattle.journal_world.specs.Sound.{AreNumberedFrom}
 use Rattle.journal_world.proofs.Elements.{all-weaker, none-passes}
 
--- no answer tells of a transaction with a number above all of them
+-- no answer names a transaction with a number above all of them
 none-tells : (mark tid : ℕ) (answered : List ℕ) → AllByRecursion (λ n. n ≤ mark) answered → mark < tid → list_any (λ n. nat_le tid n) answered ≡ false
 none-tells mark tid answered least above =
     none-passes (λ n. nat_le tid n) answered
     (all-weaker (λ n. n ≤ mark) (λ n. nat_le tid n ≡ false) (λ n low. grind (arith, nat_tests)) answered least)
 
--- whether it counts as one or as none, a transaction is one at most
+-- a transaction counts at most once
 one-counts : (b : Bool) → (if b then 1 else 0) ≤ 1
 one-counts true = omega arith
 one-counts false = omega arith
 
--- a transaction that is not acknowledged leaves the count to those behind it, and one that is adds one at most
+-- the acknowledged count is that of the rest, plus at most one
 acknowledged-first : (answered : List ℕ) (t : Transaction) (ts : History) →
     acknowledged answered (t ∷ ts) ≡ (if list_any (λ n. nat_le t.tid n) answered then 1 else 0) + acknowledged answered ts
 acknowledged-first answered t ts = sum_by-cons (λ (x : Transaction). if list_any (λ n. nat_le x.tid n) answered then 1 else 0) t ts
 
--- where there is a transaction and all answers are below a number, no more are acknowledged than are numbered below it
+-- if all answers are below a number, so are all acknowledged transactions
 pub acknowledged-few : (first n mark : ℕ) (answered : List ℕ) (ts : History) (bs : List Batch) → AllByRecursion (λ m. m ≤ mark) answered →
     (0 < length bs → mark < first + n) → AreNumberedFrom first bs → AreBatchesOf ts bs → acknowledged answered ts ≤ n
 acknowledged-few first n mark answered [] bs least marked are of = omega arith
@@ -55,7 +55,7 @@ acknowledged-few first (suc n) mark answered (t ∷ ts) (b ∷ bs) least marked 
     let count = acknowledged-first answered t ts in
     omega arith
 
--- of a chain there is one replay
+-- a chain has one replay
 same-replay : (shape : Shape) (image : Image) (texts others : List Text) (one other : Volume) → HasChain shape image texts → HasChain shape image others →
     IsReplayed shape.home_blocks texts (image Home) one → IsReplayed shape.home_blocks others (image Home) other →
     (b : ℕ) → b < shape.home_blocks → one b ≡ other b
@@ -64,7 +64,7 @@ same-replay shape image texts others one other has also made made_too =
     one_chain_of (layout_of (super_of image)) shape.home_blocks (omega arith) (super_of image).s_sequence (log_lap image) others texts also.chain has.chain in
     replayed-same shape.home_blocks texts (image Home) one other made (subst (λ ts. IsReplayed shape.home_blocks ts (image Home) other) same made_too)
 
--- an opening makes one thing of an image
+-- an opening makes one volume of an image
 pub opens-same : (shape : Shape) (image : Image) (one other : Volume) → OpensAs shape image one → OpensAs shape image other →
     (b : ℕ) → b < shape.home_blocks → one b ≡ other b
 opens-same shape image one other (Clean clean ahead same) (Clean also none kept) b below = same b below ∙ sym (kept b below)

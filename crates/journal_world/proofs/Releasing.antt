@@ -1,4 +1,4 @@
--- The write of the superblock behind a round, and its flush, which releases the round's transactions.
+-- The write and the flush of the superblock after a round, which release its transactions.
 use Rattle.std.proofs.Common.{refl, sym, ◌∙◌, ap, subst, arith, inl, inr, ⊎_elim, length-append}
 use Rattle.std.specs.Prelude.{◌≡◌, ◌⊎◌, ℕ, zero, suc, ◌+◌, ◌-◌, ◌<◌, ◌≤◌, Bool, List, [], ◌∷◌, length, map, take}
 use Rattle.journal_model.specs.declared.entry.Batch.{Batch}
@@ -37,7 +37,7 @@ accepted-least e (Blocks k) agrees = let one : length e.accepted ≡ e.committed
 accepted-least e CommitWrite agrees = let one : length e.accepted ≡ e.committed + 1 = agrees.0 in omega arith
 accepted-least e CommitFlush agrees = let one : length e.accepted ≡ e.committed + 1 = agrees.0 in omega arith
 
--- the first transactions take no more ring blocks than more of them
+-- more transactions take no fewer ring blocks
 blocks-grow : (f : Batch → Text) (m n : ℕ) (bs : List Batch) → m ≤ n →
     length (texts_blocks (map f (take m bs))) ≤ length (texts_blocks (map f (take n bs)))
 blocks-grow f zero n bs least = omega arith
@@ -49,7 +49,7 @@ blocks-grow f (suc m) (suc n) (b ∷ bs) least =
     let other = length-append (text_blocks (f b)) (texts_blocks (map f (take n bs))) in
     omega arith
 
--- the tail does not lie behind the round's end, nor that behind the start
+-- the tail is not after the round's end, nor that after the start
 tail-least : (e : Engine) → IsPlain e → (e.tail ≤ e.bound_position) × (e.bound_position ≤ e.start)
 tail-least e plain =
     let tail : e.tail ≡ position e e.released = plain.tail in
@@ -59,7 +59,7 @@ tail-least e plain =
     let most = blocks-grow (text_of e) e.bound e.committed e.accepted plain.order.1 in
     (omega arith, omega arith)
 
--- the superblock behind a round names the tail behind the round's transactions
+-- the superblock after a round names the tail after the round's transactions
 tail-named : (e : Engine) → IsPlain e → IsSuperblock e.shape e.layout e.ring e.superblock → NamesNewTail e (tail_superblock e)
 tail-named e plain is =
     let numbers : e.first + length e.accepted ≤ greatest_number + 1 = plain.numbers in
@@ -67,16 +67,16 @@ tail-named e plain is =
     let committed : e.committed ≤ length e.accepted = accepted-least e e.stage plain.stage in
     tail-names e.shape e.ring e.superblock (e.first + e.bound) e.bound_position is (omega arith)
 
--- a write of the superblock, which may have failed: no other block of the disk changed
+-- a write of the superblock, which may have failed, changes no other block
 pub record IsTailWrite (e : Engine) (old new : Disk) : Type 0 where
   pub write : IsWrite old new 0 (tail_superblock e)
   pub home : (b : ℕ) → new Home b ≡ old Home b
 
--- one that succeeded is one
+-- a write that succeeded is one
 tail-written : (e : Engine) (disk : Disk) → IsTailWrite e disk (written disk Log 0 (tail_superblock e))
 tail-written e disk = record { write = is_write-written disk 0 (tail_superblock e); home = λ b. refl }
 
--- so is one that failed
+-- a write that failed is one
 pub tail-fault : (e : Engine) (old new : Disk) → IsAfterFault (Write Log 0 (tail_superblock e)) old new → IsTailWrite e old new
 tail-fault e old new fault = record {
   write = is_write-fault old new 0 (tail_superblock e) fault;
@@ -92,15 +92,15 @@ module _ (e : Engine) (plain : IsPlain e) (at : e.round ≡ TailWrite) where
   write-more : e.released < e.bound
   write-more = subst (RoundAgrees e) at plain.round
 
-  -- so some are committed
+  -- some transaction is committed
   pub write-some : 0 < e.committed
   write-some = some-committed e plain write-more
 
-  -- and the superblock says where the log begins
+  -- the superblock names the tail
   write-named : NamesTail e e.superblock
   write-named = started-names e TailWrite plain write-some at
 
-  -- what the write of the superblock changes
+  -- the write of the superblock is a change of a round
   pub tail_written-change : IsRoundChange e (tail_written e)
   tail_written-change = record {
     names = tail-named e plain write-named.is_superblock;
@@ -130,7 +130,7 @@ module _ (e : Engine) (disk after : Disk) (sound : Sound e disk) (at : e.round �
   write-home : (b : ℕ) (c : Cell) → disk Home b ≡ c → after Home b ≡ c
   write-home b c durable = tail.home b ∙ durable
 
-  -- the engine stays sound where the write fails
+  -- the engine stays sound if the write fails
   pub tail_write-fails : (a : Bool) → Sound (going e TailWrite a) after
   tail_write-fails a =
       let f : Engine = going e TailWrite a in
@@ -147,7 +147,7 @@ module _ (e : Engine) (disk after : Disk) (sound : Sound e disk) (at : e.round �
         round = home-kept e f disk after e.bound (λ b v durable. write-home b _ durable) (subst (RoundHolds e disk) at sound.round);
       })
 
--- and where it succeeds
+-- the engine stays sound over the write
 pub tail_write-sound : (e : Engine) (disk : Disk) → Sound e disk → e.round ≡ TailWrite → Sound (tail_written e) (written disk Log 0 (tail_superblock e))
 tail_write-sound e disk sound at =
     let f : Engine = tail_written e in
@@ -180,7 +180,7 @@ module _ (e : Engine) (plain : IsPlain e) (at : e.round ≡ TailFlush) where
   flush-named : NamesNewTail e e.superblock
   flush-named = started-names e TailFlush plain flush-some at
 
-  -- what the flush of the superblock changes
+  -- the flush of the superblock is a change of a round
   pub released-change : IsRoundChange e (released e)
   released-change = record {
     names = flush-named;
@@ -192,7 +192,7 @@ module _ (e : Engine) (plain : IsPlain e) (at : e.round ≡ TailFlush) where
   }
 
 module _ (e : Engine) (disk : Disk) (sound : Sound e disk) (at : e.round ≡ TailFlush) where
-  -- no block of a committed transaction could be taken for one of the next
+  -- no committed block could be taken for one of the next transaction
   committed-block : (j : ℕ) → j < e.start → IsBehind (e.first + e.committed) (block_at (texts_blocks (committed_texts e)) j)
   committed-block j below =
       let start : e.start ≡ length (texts_blocks (committed_texts e)) = sound.plain.start in
@@ -201,7 +201,7 @@ module _ (e : Engine) (disk : Disk) (sound : Sound e disk) (at : e.round ≡ Tai
       (committed-behind e sound.plain layout (accepted-least e e.stage sound.plain.stage))
       (block-there (texts_blocks (committed_texts e)) j (omega arith))
 
-  -- so the ring blocks that become free hold none that could
+  -- the freed ring blocks hold none that could
   freed-behind : (k : ℕ) (v : List ℕ) → e.tail + e.ring.blocks ≤ k → k < e.bound_position + e.ring.blocks →
       IsOneOf (held (flushed disk Log Log (ring_place e.ring k))) v → IsBehind (e.first + e.committed) v
   freed-behind k v low high one =
@@ -213,7 +213,7 @@ module _ (e : Engine) (disk : Disk) (sound : Sound e disk) (at : e.round ≡ Tai
       ap (λ n. (disk Log n).reads) place ∙ ap (λ (c : Cell). c.reads) durable in
       subst (IsBehind (e.first + e.committed)) (sym (held-flushed disk (ring_place e.ring k) v one ∙ reads)) (committed-block j (omega arith))
 
-  -- the flush of that superblock succeeds
+  -- the engine stays sound over the flush of that superblock
   pub tail_flush-sound : Sound (released e) (flushed disk Log)
   tail_flush-sound =
       let f : Engine = released e in

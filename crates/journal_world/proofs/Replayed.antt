@@ -24,7 +24,7 @@ among [] k x stands = absurd (none-some x stands)
 among (y ∷ xs) zero x stands = contains-first y xs x (same_Some y x stands)
 among (y ∷ xs) (suc k) x stands = contains-behind y xs x (among xs k x stands)
 
--- a copy of block b among copies: none is there, or there is a last one
+-- copies have none of block b, or a last one
 pub data LastOf (b : ℕ) (copies : List (ℕ × List ℕ)) : Type 0 where
   Nowhere : ((k : ℕ) (v : List ℕ) → slice_get copies k ≡ Some (b, v) → ⊥) → LastOf b copies
   Last : (k : ℕ) (v : List ℕ) → slice_get copies k ≡ Some (b, v) → ((m : ℕ) (w : List ℕ) → slice_get copies m ≡ Some (b, w) → m ≤ k) → LastOf b copies
@@ -50,7 +50,7 @@ none-front b c cs none =
           ])
     ]
 
--- the last copy stays the last behind one more
+-- the last copy stays the last after one more
 last-front : (b : ℕ) (c : ℕ × List ℕ) (cs : List (ℕ × List ℕ)) → LastOf b cs → LastOf b (c ∷ cs)
 last-front b c cs (Nowhere none) = none-front b c cs none
 last-front b c cs (Last k v stands last) =
@@ -90,7 +90,7 @@ pub record SaysEntries (es : List (ℕ × Entry)) (text : Text) : Type 0 where
   pub copies : text_copies text ≡ copied es
   pub revokes : text_revokes text ≡ revoked es
 
--- what a text says of a block: nothing, that it is revoked, or its last copy
+-- a text says of a block nothing, a revoke, or its last copy
 abbrev pub Says : ℕ → Text → Option Entry → Type 0
 Says b text None = ((k : ℕ) (v : List ℕ) → slice_get (text_copies text) k ≡ Some (b, v) → ⊥) × (Contains (text_revokes text) b → ⊥)
 Says b text (Some Revoke) = Contains (text_revokes text) b
@@ -98,38 +98,38 @@ Says b text (Some (Copy v)) =
     ((k : ℕ) × (slice_get (text_copies text) k ≡ Some (b, v)) × ((m : ℕ) (w : List ℕ) → slice_get (text_copies text) m ≡ Some (b, w) → m ≤ k))
     × (Contains (text_revokes text) b → ⊥)
 
--- what a chain leaves of a block: nothing is said of it, it is revoked, or its newest live copy
+-- a chain leaves of a block nothing, a revoke, or its newest live copy
 abbrev pub LeavesOf : ℕ → List Text → Option Entry → Type 0
 LeavesOf b texts None = HasNoLive texts b × (IsCovered texts 0 b → ⊥)
 LeavesOf b texts (Some Revoke) = HasNoLive texts b × IsCovered texts 0 b
 LeavesOf b texts (Some (Copy v)) = IsNewest texts b v
 
--- what covers copies behind the first text covers them behind one more
+-- covered copies stay covered with one more text in front
 covered-behind : (b i : ℕ) (t : Text) (ts : List Text) → IsCovered ts i b → IsCovered (t ∷ ts) (suc i) b
 covered-behind b i t ts c =
     let low : i ≤ c.revoker = c.not_before in
     record { revoker = suc c.revoker; text = c.text; not_before = omega arith; stands = c.stands; revokes = c.revokes }
 
--- the text at a place behind the first covers the same copies without the first
+-- a text after the first covers the same copies without the first
 covered-at : (b i r : ℕ) (t u : Text) (ts : List Text) → suc i ≤ r → slice_get (t ∷ ts) r ≡ Some u → Contains (text_revokes u) b → IsCovered ts i b
 covered-at b i zero t u ts low stands revokes = absurd (omega arith)
 covered-at b i (suc r) t u ts low stands revokes = record { revoker = r; text = u; not_before = omega arith; stands = stands; revokes = revokes }
 
--- what covers copies behind the first text covers them without it
+-- copies covered after the first text are covered without it
 covered-back : (b i : ℕ) (t : Text) (ts : List Text) → IsCovered (t ∷ ts) (suc i) b → IsCovered ts i b
 covered-back b i t ts c = covered-at b i c.revoker t c.text ts c.not_before c.stands c.revokes
 
--- the text at a place that covers those of the first text: it is the first, or one behind
+-- the first text's copies are covered by the first text or a later one
 covered-first_at : (b r : ℕ) (t u : Text) (ts : List Text) → slice_get (t ∷ ts) r ≡ Some u → Contains (text_revokes u) b →
     Contains (text_revokes t) b ⊎ IsCovered ts 0 b
 covered-first_at b zero t u ts stands revokes = inl (subst (λ x. Contains (text_revokes x) b) (sym (same_Some t u stands)) revokes)
 covered-first_at b (suc r) t u ts stands revokes = inr (record { revoker = r; text = u; not_before = omega arith; stands = stands; revokes = revokes })
 
--- what covers the copies of the first text: it revokes the block, or a text behind it does
+-- they are covered if the first or a later text revokes the block
 covered-first : (b : ℕ) (t : Text) (ts : List Text) → IsCovered (t ∷ ts) 0 b → Contains (text_revokes t) b ⊎ IsCovered ts 0 b
 covered-first b t ts c = covered-first_at b c.revoker t c.text ts c.stands c.revokes
 
--- what covers all copies covers all copies behind one more text
+-- what covers all copies covers them with one more text in front
 covered-more : (b : ℕ) (t : Text) (ts : List Text) → IsCovered ts 0 b → IsCovered (t ∷ ts) 0 b
 covered-more b t ts c = record { revoker = suc c.revoker; text = c.text; not_before = omega arith; stands = c.stands; revokes = c.revokes }
 
@@ -137,11 +137,11 @@ covered-more b t ts c = record { revoker = suc c.revoker; text = c.text; not_bef
 covered-here : (b : ℕ) (t : Text) (ts : List Text) → Contains (text_revokes t) b → IsCovered (t ∷ ts) 0 b
 covered-here b t ts revokes = record { revoker = 0; text = t; not_before = omega arith; stands = refl; revokes = revokes }
 
--- a live copy is live behind one more text
+-- a live copy stays live with one more text in front
 live-behind : (b i k : ℕ) (v : List ℕ) (t : Text) (ts : List Text) → IsLive ts b i k v → IsLive (t ∷ ts) b (suc i) k v
 live-behind b i k v t ts l = record { text = l.text; stands = l.stands; copy = l.copy; uncovered = λ c. l.uncovered (covered-back b i t ts c) }
 
--- a live copy behind the first text is live without it
+-- a live copy after the first text is live without it
 live-back : (b i k : ℕ) (v : List ℕ) (t : Text) (ts : List Text) → IsLive (t ∷ ts) b (suc i) k v → IsLive ts b i k v
 live-back b i k v t ts l = record { text = l.text; stands = l.stands; copy = l.copy; uncovered = λ c. l.uncovered (covered-behind b i t ts c) }
 
@@ -149,12 +149,12 @@ live-back b i k v t ts l = record { text = l.text; stands = l.stands; copy = l.c
 live-first : (b k : ℕ) (v : List ℕ) (t : Text) (ts : List Text) → IsLive (t ∷ ts) b 0 k v → slice_get (text_copies t) k ≡ Some (b, v)
 live-first b k v t ts l = ap (λ u. slice_get (text_copies u) k) (same_Some t l.text l.stands) ∙ l.copy
 
--- no copy is live where none of the first text is and none of the others
+-- no copy is live if none of the first text is, nor of the others
 none-live : (b : ℕ) (t : Text) (ts : List Text) → ((k : ℕ) (v : List ℕ) → IsLive (t ∷ ts) b 0 k v → ⊥) → HasNoLive ts b → HasNoLive (t ∷ ts) b
 none-live b t ts first others zero k v live = first k v live
 none-live b t ts first others (suc i) k v live = others i k v (live-back b i k v t ts live)
 
--- the newest live copy stays the newest behind one more text
+-- the newest live copy stays the newest with one more text in front
 newest-behind : (b : ℕ) (v : List ℕ) (t : Text) (ts : List Text) → IsNewest ts b v → IsNewest (t ∷ ts) b v
 newest-behind b v t ts n =
     record {
@@ -170,7 +170,7 @@ newest-behind b v t ts n =
       ];
     }
 
--- the last copy of the first text is the newest where no text behind says anything of the block
+-- the first text's last copy is the newest, if no later text names the block
 newest-first : (b k : ℕ) (v : List ℕ) (t : Text) (ts : List Text) →
     slice_get (text_copies t) k ≡ Some (b, v) → ((m : ℕ) (w : List ℕ) → slice_get (text_copies t) m ≡ Some (b, w) → m ≤ k) →
     (IsCovered (t ∷ ts) 0 b → ⊥) → HasNoLive ts b → IsNewest (t ∷ ts) b v
@@ -185,7 +185,7 @@ newest-first b k v t ts stands last uncovered none =
       ];
     }
 
--- the first text covers nothing where neither it nor the others revoke the block
+-- they are not covered if no text revokes the block
 uncovered-first : (b : ℕ) (t : Text) (ts : List Text) → (Contains (text_revokes t) b → ⊥) → (IsCovered ts 0 b → ⊥) → IsCovered (t ∷ ts) 0 b → ⊥
 uncovered-first b t ts here later c =
     elim (covered-first b t ts c) [
@@ -193,7 +193,7 @@ uncovered-first b t ts here later c =
       | inr d ↦ later d
     ]
 
--- one more text in front of a chain: the later of what both say of a block is left
+-- one more text in front leaves the later of what both say of a block
 leaves-step : (b : ℕ) (t : Text) (ts : List Text) (f e : Option Entry) → Says b t f → LeavesOf b ts e → LeavesOf b (t ∷ ts) (later f e)
 leaves-step b t ts f (Some (Copy v)) says left = newest-behind b v t ts left
 leaves-step b t ts f (Some Revoke) says left = (
@@ -240,7 +240,7 @@ revoke-stands b ss text says made =
     let m = contains-filter_map (λ (p : ℕ × Entry). revoke_of p.0 p.1) (entries ss) (b, Revoke) b (effect-entries ss b Revoke made) refl in
     subst (λ ns. Contains ns b) (sym says.revokes) m
 
--- of a block that some steps leave copied, the last copy in their text is that one
+-- if steps leave a block copied, that is the last copy in their text
 last-copy : (b : ℕ) (v : List ℕ) (ss : List Step) (text : Text) → SaysEntries (entries ss) text → effect b ss ≡ Some (Copy v) → LastOf b (text_copies text) →
     (k : ℕ) × (slice_get (text_copies text) k ≡ Some (b, v)) × ((m : ℕ) (w : List ℕ) → slice_get (text_copies text) m ≡ Some (b, w) → m ≤ k)
 last-copy b v ss text says made (Nowhere none) =
@@ -270,11 +270,11 @@ AreTextsOf (t ∷ ts) (x ∷ xs) = SaysEntries (entries t.steps) x × AreTextsOf
 AreTextsOf [] (x ∷ xs) = ⊥
 AreTextsOf (t ∷ ts) [] = ⊥
 
--- no text says anything of a block
+-- the empty chain says nothing of a block
 none-said : (b : ℕ) → LeavesOf b [] None
 none-said b = (λ i k v l. none-some l.text l.stands, λ c. none-some c.text c.stands)
 
--- a chain of their texts leaves of a block the last effect of the transactions on it
+-- a chain leaves of a block the last effect of its transactions
 leaves-last : (b : ℕ) (ts : History) (xs : List Text) → AreTextsOf ts xs → LeavesOf b xs (last_effect b ts)
 leaves-last b [] [] are = none-said b
 leaves-last b [] (x ∷ xs) are = absurd are
@@ -289,7 +289,7 @@ left-replayed b xs None home left = inr (left.0, refl)
 left-replayed b xs (Some Revoke) home left = inr (left.0, refl)
 left-replayed b xs (Some (Copy v)) home left = inl left
 
--- the own texts of batches have the entries of the transactions that these are of
+-- the own texts of batches have the entries of their transactions
 own-texts-of : (l : Layout) (uuid : List ℕ) (ts : History) (bs : List Batch) → IsLayout l → AreBatchesOf ts bs →
     AreTextsOf ts (map (λ b. own_text l uuid b.tid b.entries) bs)
 own-texts-of l uuid [] [] layout are = tt
@@ -303,7 +303,7 @@ own-texts-of l uuid (t ∷ ts) (b ∷ bs) layout are = (
   own-texts-of l uuid ts bs layout are.2,
 )
 
--- the volume that the first transactions make of left
+-- the replay makes the volume that the first transactions leave
 pub own-replayed : (count : ℕ) (l : Layout) (uuid : List ℕ) (ts : History) (bs : List Batch) (left : Volume) → IsLayout l → AreBatchesOf ts bs →
     IsReplayed count (map (λ b. own_text l uuid b.tid b.entries) bs) left (λ b. bytes_of (content_of (last_effect b ts)) (left b))
 own-replayed count l uuid ts bs left layout are b below =

@@ -27,7 +27,7 @@ aborting e = record e { aborted = true }
 flush-undone : (area : Area) (old new : Disk) → IsAfterFault (Flush area) old new → new ≡ old
 flush-undone area old new (Undone call x y same) = same
 
--- on a disk that did not change, the engine stays sound among the round's copies
+-- on an unchanged disk, the engine stays sound among the round's copies
 copies-stay : (e : Engine) (disk : Disk) (transaction block : ℕ) → Sound e disk → e.round ≡ Copies transaction block →
     Sound (going e (Copies transaction block) true) disk
 copies-stay e disk transaction block sound at =
@@ -45,7 +45,7 @@ copies-stay e disk transaction block sound at =
       round = λ i b v pending due before. holds i b v (pending-of f e i b v refl refl refl pending) due before;
     })
 
--- and behind the write of the superblock
+-- on an unchanged disk, the engine stays sound after the superblock's write
 tail-stays : (e : Engine) (disk : Disk) → Sound e disk → e.round ≡ TailFlush → Sound (going e TailFlush true) disk
 tail-stays e disk sound at =
     let f : Engine = going e TailFlush true in
@@ -66,7 +66,7 @@ tail-stays e disk sound at =
 at-round : (e : Engine) (round : Round) (disk : Disk) → e.round ≡ round → Sound (going e round true) disk → Sound (aborting e) disk
 at-round e round disk at sound = subst (λ (r : Round). Sound (going e r true) disk) (sym at) sound
 
--- whichever call is due, the engine is sound after it failed
+-- whichever call is due, the engine stays sound if it fails
 call-fails : (e : Engine) (round : Round) (call : Call) (new : Engine) (disk after : Disk) → Sound e disk → e.round ≡ round → RoundCall e round call new →
     IsAfterFault call disk after → Sound (aborting e) after
 call-fails e round call new disk after sound at (CopyHome transaction block i b v next) fault =

@@ -12,7 +12,7 @@ use Rattle.journal_world.proofs.Copying.{copied-sound, home_flush-sound}
 use Rattle.journal_world.proofs.Releasing.{tail_flush-sound, tail_write-sound}
 use Rattle.journal_world.proofs.Rounds.{begun-sound}
 
--- whichever call is due, the engine is sound behind it
+-- whichever call is due, the engine is sound after it
 call-sound : (e : Engine) (round : Round) (call : Call) (new : Engine) (disk : Disk) → Sound e disk → e.round ≡ round → RoundCall e round call new →
     Sound new (after_success call disk)
 call-sound e round call new disk sound at (CopyHome transaction block i b v next) = copied-sound e disk transaction block i b v sound at next

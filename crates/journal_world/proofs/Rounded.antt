@@ -1,4 +1,4 @@
--- An engine whose round changes stays sound where the ring blocks keep what they read and what of them is durable.
+-- A change of the round keeps the engine sound, if ring blocks keep what they read and what is durable.
 use Rattle.std.proofs.Common.{refl, sym, ◌∙◌, ap, subst, arith, inl, inr}
 use Rattle.std.specs.Prelude.{◌≡◌, ◌⊎◌, ℕ, ◌+◌, ◌-◌, ◌<◌, ◌≤◌, Bool, true, false, List, length}
 use Rattle.std.proofs.lemmas.Bool.{cases_lt}
@@ -12,7 +12,7 @@ use Rattle.journal_world.specs.Engine.{Engine, due_blocks}
 use Rattle.journal_world.specs.Opening.{IsBehind}
 use Rattle.journal_world.specs.Sound.{HomeHas, IsOwnBlock, IsPlain, MayBeSuperblock, Names, NamesStarted, RoundAgrees, RoundHolds, Sound, StageAgrees, StageHolds, durable_cell, position}
 
--- e with all that a round may change as f has it
+-- e with what a round may change taken from f
 abbrev pub rounded : Engine → Engine → Engine
 rounded e f = record e {
   superblock = f.superblock;
@@ -24,7 +24,7 @@ rounded e f = record e {
   aborted = f.aborted;
 }
 
--- a cell reads as it did, stays durable where it was, and holds nothing new
+-- a cell reads as it did, stays durable, and holds nothing new
 pub record KeepsCell (old new : Cell) : Type 0 where
   pub reads : new.reads ≡ old.reads
   pub durable : (v : List ℕ) → old ≡ durable_cell v → new ≡ durable_cell v
@@ -34,7 +34,7 @@ pub record KeepsCell (old new : Cell) : Type 0 where
 pub record KeepsRing (e : Engine) (old new : Disk) : Type 0 where
   pub each : (k : ℕ) → KeepsCell (old Log (ring_place e.ring k)) (new Log (ring_place e.ring k))
 
--- a cell that stays as it is does
+-- an unchanged cell does so
 pub cell-kept : (old new : Cell) → new ≡ old → KeepsCell old new
 cell-kept old new same = record {
   reads = ap (λ (c : Cell). c.reads) same;
@@ -42,7 +42,7 @@ cell-kept old new same = record {
   left = λ v one. subst (λ (c : Cell). IsOneOf (held c) v) same one;
 }
 
--- and one that is flushed
+-- a flushed cell does so
 pub cell-flushed : (c : Cell) → KeepsCell c (durable_cell c.reads)
 cell-flushed c = record {
   reads = refl;
@@ -54,7 +54,7 @@ cell-flushed c = record {
     reads-left c v (inl is) = inl is
     reads-left c v (inr none) = absurd none
 
--- once a transaction is committed, the superblock says where the log begins
+-- once a transaction is committed, the log is started
 pub started-once : (e : Engine) (stage : Stage) → StageAgrees e stage → 0 < e.committed → e.started ≡ true
 started-once e Idle agrees some = begun-log e.started refl agrees.1
   where
@@ -67,13 +67,13 @@ started-once e (Blocks k) agrees some = agrees.1
 started-once e CommitWrite agrees some = agrees.1
 started-once e CommitFlush agrees some = agrees.1
 
--- so it names what it does at its round
+-- then the superblock names what its round says
 pub started-names : (e : Engine) (round : Round) → IsPlain e → 0 < e.committed → e.round ≡ round → NamesStarted e round e.superblock
 started-names e round plain some at =
     let started : e.started ≡ true = started-once e e.stage plain.stage some in
     subst (λ (r : Round). NamesStarted e r e.superblock) at (subst (λ (b : Bool). Names e b e.superblock) started plain.names)
 
--- a round leaves the stage of the commit
+-- a round leaves the stage of the commit as it is
 stage-agrees : (e f : Engine) (stage : Stage) → StageAgrees e stage → StageAgrees (rounded e f) stage
 stage-agrees e f Idle agrees = agrees
 stage-agrees e f SuperblockWrite agrees = agrees
@@ -82,7 +82,7 @@ stage-agrees e f (Blocks k) agrees = agrees
 stage-agrees e f CommitWrite agrees = agrees
 stage-agrees e f CommitFlush agrees = agrees
 
--- and what is written of it: no superblock of a log that begins is being written once a transaction is committed
+-- a round leaves what is written of a commit, since no first superblock is being written
 stage-holds : (e f : Engine) (disk after : Disk) (stage : Stage) → 0 < e.committed → StageAgrees e stage → KeepsRing e disk after →
     StageHolds e disk stage → StageHolds (rounded e f) after stage
 stage-holds e f disk after Idle some agrees ring holds = tt
@@ -93,7 +93,7 @@ stage-holds e f disk after CommitWrite some agrees ring holds = λ j before. (ri
 stage-holds e f disk after CommitFlush some agrees ring holds =
     (λ j before. (ring.each (e.start + j)).durable _ (holds.0 j before), (ring.each (e.start + (length (due_blocks e) - 1))).reads ∙ holds.1)
 
--- what is to be known of the changes that a round makes to an engine alone
+-- the premises for a change of the engine by a round
 pub record IsRoundChange (e f : Engine) : Type 0 where
   pub names : NamesStarted (rounded e f) f.round f.superblock
   pub tail : f.tail ≡ position e f.released
@@ -102,7 +102,7 @@ pub record IsRoundChange (e f : Engine) : Type 0 where
   pub forward : e.tail ≤ f.tail
   pub round : RoundAgrees (rounded e f) f.round
 
--- the engine keeps of itself what it kept
+-- the engine stays plain
 pub rounded-plain : (e f : Engine) → IsPlain e → 0 < e.committed → IsRoundChange e f → IsPlain (rounded e f)
 rounded-plain e f plain some change = record {
   names =
@@ -125,7 +125,7 @@ rounded-plain e f plain some change = record {
   round = change.round;
 }
 
--- what is to be known of the disk
+-- the premises for a change of the disk by a round
 pub record IsRoundStep (e f : Engine) (disk after : Disk) : Type 0 where
   pub some : 0 < e.committed
   pub change : IsRoundChange e f
@@ -136,7 +136,7 @@ pub record IsRoundStep (e f : Engine) (disk after : Disk) : Type 0 where
   pub home : HomeHas (rounded e f) after f.released
   pub round : RoundHolds (rounded e f) after f.round
 
--- what is held behind the committed transactions is held there whatever the round is
+-- what is held after the committed transactions does not depend on the round
 own-kept : (e f : Engine) (k : ℕ) (v : List ℕ) → IsBehind (e.first + e.committed) v ⊎ IsOwnBlock e k v →
     IsBehind (e.first + e.committed) v ⊎ IsOwnBlock (rounded e f) k v
 own-kept e f k v (inl behind) = inl behind

@@ -17,11 +17,11 @@ use Rattle.journal_world.proofs.Rounded.{IsRoundChange, cell-kept, rounded, roun
 abbrev pub going : Engine → Round → Bool → Engine
 going e round aborted = record e { round = round; aborted = aborted }
 
--- a round that is under way releases some of the committed transactions
+-- a round under way releases some of the committed transactions
 pub some-committed : (e : Engine) → IsPlain e → e.released < e.bound → 0 < e.committed
 some-committed e plain more = let least : e.bound ≤ e.committed = plain.order.1 in omega arith
 
--- what a round keeps of an engine that goes on with it
+-- the change to an engine that goes on with its round
 pub going-change : (e : Engine) (old new : Round) (a : Bool) → IsPlain e → 0 < e.committed → e.round ≡ old →
     (NamesStarted e old e.superblock → NamesStarted (going e new a) new e.superblock) → RoundAgrees (going e new a) new → IsRoundChange e (going e new a)
 going-change e old new a plain some at names agrees = record {
@@ -33,14 +33,14 @@ going-change e old new a plain some at names agrees = record {
   round = agrees;
 }
 
--- what a crash may leave of block 0 it may leave where the round changes, if the new superblock is still one that it may leave
+-- what a crash may leave of block 0 it may leave after a change of the round
 pub may-kept : (e f : Engine) (v : List ℕ) → (NamesTail e v → NamesTail (rounded e f) v) →
     (MovesTail e → NamesNewTail e v → MayBeSuperblock (rounded e f) v) → MayBeSuperblock e v → MayBeSuperblock (rounded e f) v
 may-kept e f v released moved (Clean may names) = Clean may names
 may-kept e f v released moved (Old names) = Old (released names)
 may-kept e f v released moved (New moves names) = moved moves names
 
--- a round that has not come to its superblock moves no tail
+-- a round among its copies moves no tail
 pub none-moved : (e : Engine) (transaction block : ℕ) → e.round ≡ Copies transaction block → MovesTail e → ⊥
 none-moved e transaction block at (inl writes) = apart (sym at ∙ writes)
   where
@@ -51,7 +51,7 @@ none-moved e transaction block at (inr flushes) = apart (sym at ∙ flushes)
     apart : Copies transaction block ≡ TailFlush → ⊥
     apart same = cc
 
--- nor does an engine without a round
+-- an engine without a round moves no tail
 idle-unmoved : (e : Engine) → e.round ≡ NoRound → MovesTail e → ⊥
 idle-unmoved e at (inl writes) = apart (sym at ∙ writes)
   where
@@ -62,7 +62,7 @@ idle-unmoved e at (inr flushes) = apart (sym at ∙ flushes)
     apart : NoRound ≡ TailFlush → ⊥
     apart same = cc
 
--- what is durable at home is so where the round changes, if the disk keeps that
+-- what is durable at home stays so, if the disk keeps it
 pub home-kept : (e f : Engine) (disk after : Disk) (n : ℕ) →
     ((b : ℕ) (v : List ℕ) → disk Home b ≡ durable_cell v → after Home b ≡ durable_cell v) → HomeHas e disk n → HomeHas (rounded e f) after n
 home-kept e f disk after n kept home = λ i b v newest below. kept b v (home i b v (newest-of (rounded e f) e i b v refl refl newest) below)
@@ -71,7 +71,7 @@ home-kept e f disk after n kept home = λ i b v newest below. kept b v (home i b
 abbrev beginning : Engine → Engine
 beginning e = record e { bound = e.committed; bound_position = e.start; round = Copies 0 0 }
 
--- what its beginning changes
+-- the beginning of a round is a change of a round
 beginning-change : (e : Engine) → IsPlain e → e.round ≡ NoRound → e.released < e.committed → IsRoundChange e (beginning e)
 beginning-change e plain at more = record {
   names = started-names e NoRound plain (omega arith) at;
@@ -82,7 +82,7 @@ beginning-change e plain at more = record {
   round = more;
 }
 
--- it is sound
+-- the engine with a new round is sound
 beginning-sound : (e : Engine) (disk : Disk) → Sound e disk → e.round ≡ NoRound → e.released < e.committed → Sound (beginning e) disk
 beginning-sound e disk sound at more = rounded-sound e (beginning e) disk disk sound (record {
   some = omega arith;
@@ -101,7 +101,7 @@ beginning-sound e disk sound at more = rounded-sound e (beginning e) disk disk s
           | inr zero ↦ inr (omega arith, omega arith)
         ]
 
--- whether a round is under way or begins
+-- the engine is sound, whether a round is under way or begins
 begun-at : (e : Engine) (round : Round) (disk : Disk) → Sound e disk → e.round ≡ round → HasRound e → Sound (begun_from e round) disk
 begun-at e NoRound disk sound at more = beginning-sound e disk sound at more
 begun-at e (Copies transaction block) disk sound at more = sound
@@ -112,13 +112,13 @@ begun-at e TailFlush disk sound at more = sound
 pub begun-sound : (e : Engine) (disk : Disk) → Sound e disk → HasRound e → Sound (begun e) disk
 begun-sound e disk sound has = begun-at e e.round disk sound refl has
 
--- it keeps of itself what it kept
+-- it stays plain, whichever round is under way
 begun-plain-at : (e : Engine) (round : Round) → IsPlain e → e.round ≡ round → HasRound e → IsPlain (begun_from e round)
 begun-plain-at e NoRound plain at more = rounded-plain e (beginning e) plain (omega arith) (beginning-change e plain at more)
 begun-plain-at e (Copies transaction block) plain at more = plain
 begun-plain-at e TailWrite plain at more = plain
 begun-plain-at e TailFlush plain at more = plain
 
--- whatever the disk is
+-- it stays plain, whatever the disk is
 pub begun-plain : (e : Engine) → IsPlain e → HasRound e → IsPlain (begun e)
 begun-plain e plain has = begun-plain-at e e.round plain refl has

@@ -1,4 +1,4 @@
--- The write of the superblock that says where the log begins, and its flush.
+-- The write of the first superblock of a started log, and its flush.
 use Rattle.std.proofs.Common.{refl, sym, ◌∙◌, ap, subst, arith, inl, inr, ⊎_elim}
 use Rattle.std.specs.Prelude.{◌≡◌, ◌⊎◌, ℕ, ◌+◌, ◌<◌, ◌≤◌, Bool, true, false, List, length}
 use Rattle.journal_model.specs.declared.number.Area.TheVariants.{Log}
@@ -19,7 +19,7 @@ use Rattle.journal_world.proofs.Superblocks.{names-superblock}
 use Rattle.journal_world.proofs.Tails.{tail-names}
 use Rattle.journal_world.proofs.Texts.{due-some}
 
--- while none is committed, none is released, and no round is under way
+-- while none is committed, none is released and no round is under way
 pub none-released : (e : Engine) → IsPlain e → e.committed ≡ 0 → (e.released ≡ 0) × (e.round ≡ NoRound)
 none-released e plain none =
     let below : e.released ≤ e.bound = plain.order.0 in
@@ -53,11 +53,11 @@ started-names e a plain =
 pub record IsStart (e : Engine) (old new : Disk) : Type 0 where
   pub write : IsWrite old new 0 (started_superblock e)
 
--- it leaves each ring block as it was
+-- that write leaves each ring block as it was
 start-other : (e : Engine) (old new : Disk) (k : ℕ) → IsPlain e → IsStart e old new → new Log (ring_place e.ring k) ≡ old Log (ring_place e.ring k)
 start-other e old new k plain start = start.write.others (ring_place e.ring k) (place-above e.ring k (ring-first e plain))
 
--- what it leaves held of block 0
+-- after it block 0 holds what a crash may leave
 start-may : (e : Engine) (a : Bool) (disk after : Disk) (v : List ℕ) → Sound (at e SuperblockWrite a) disk →
     IsStart (at e SuperblockWrite a) disk after → IsOneOf (held (after Log 0)) v → MayBeSuperblock (at e SuperblockWrite a) v
 start-may e a disk after v sound start one =
@@ -77,7 +77,7 @@ start-behind e a disk after k v sound start low high one =
     none-handed (inl behind) = behind
     none-handed (inr own) = let below = own.handed_over in absurd (omega arith)
 
--- where the write fails, the engine stays sound
+-- the engine stays sound if the write fails
 pub start-fails : (e : Engine) (a b : Bool) (disk after : Disk) → Sound (at e SuperblockWrite a) disk → IsStart (at e SuperblockWrite a) disk after →
     Sound (at e SuperblockWrite b) after
 start-fails e a b disk after sound start =
@@ -92,11 +92,11 @@ start-fails e a b disk after sound start =
       round = subst (RoundHolds (at e SuperblockWrite b) after) (sym none) tt;
     }
 
--- the engine behind the write
+-- the engine after the write
 abbrev started_engine : Engine → Bool → Engine
 started_engine e a = stepped_from (at e SuperblockWrite a) SuperblockWrite
 
--- what it keeps of itself where the write succeeds
+-- that engine stays plain
 pub start-plain : (e : Engine) (a : Bool) → IsPlain (at e SuperblockWrite a) → IsPlain (started_engine e a)
 start-plain e a plain =
     let none : e.round ≡ NoRound = (none-released (at e SuperblockWrite a) plain plain.stage.2).1 in
@@ -117,17 +117,17 @@ start-plain e a plain =
       round = subst (RoundAgrees (started_engine e a)) (sym none) (subst (RoundAgrees (at e SuperblockWrite a)) none plain.round);
     }
 
--- what a crash leaves of block 0 then
+-- what a crash then leaves of block 0
 started-may : (e : Engine) (a : Bool) (v : List ℕ) → MayBeSuperblock (at e SuperblockWrite a) v → MayBeSuperblock (started_engine e a) v
 started-may e a v (Clean may names) = Clean (inr refl) names
 started-may e a v (Old names) = Old names
 started-may e a v (New moves names) = New moves names
 
--- none is released, so home need not have any
+-- home need hold no copies while none is released
 none-home : (e : Engine) (disk : Disk) (n : ℕ) → n ≡ 0 → HomeHas e disk n
 none-home e disk n none = λ i b v newest below. absurd (omega arith)
 
--- and then it stays sound
+-- the engine stays sound over the write
 pub start-sound : (e : Engine) (a : Bool) (disk : Disk) → Sound (at e SuperblockWrite a) disk →
     Sound (started_engine e a) (written disk Log 0 (started_superblock e))
 start-sound e a disk sound =
@@ -144,12 +144,12 @@ start-sound e a disk sound =
       round = subst (RoundHolds (started_engine e a) after) (sym none.1) tt;
     }
 
--- what the superblock names while none is committed
+-- while none is committed, the superblock names the tail
 named-released : (e : Engine) (started : Bool) (v : List ℕ) → started ≡ true → e.round ≡ NoRound → Names e started v → NamesTail e v
 named-released e true v is none names = subst (λ (round : Round). NamesStarted e round v) none names
 named-released e false v is none names = cc
 
--- so it does over the flush behind it
+-- the engine stays sound over the flush
 pub started-sound : (e : Engine) (a : Bool) (disk : Disk) → Sound (at e SuperblockFlush a) disk → Sound (at e (Blocks 0) a) (flushed disk Log)
 started-sound e a disk sound =
     let one : length e.accepted ≡ e.committed + 1 = sound.plain.stage.0 in

@@ -13,12 +13,12 @@ use Rattle.journal_world.proofs.Changes.{at}
 use Rattle.journal_world.proofs.Committing.{done-sound}
 use Rattle.journal_world.proofs.Starting.{start-sound, started-sound}
 
--- a disk after one call is the disk after the same call
+-- equal calls leave the engine sound alike
 same-call : (e : Engine) (disk : Disk) (call other : Call) → Some call ≡ Some other → Sound e (after_success call disk) →
     Sound e (after_success other disk)
 same-call e disk call other same sound = subst (λ (c : Call). Sound e (after_success c disk)) (same_Some call other same) sound
 
--- the call that is due at a stage, and the stage behind it
+-- the due call of a stage keeps the engine sound
 step-at : (e : Engine) (stage : Stage) (a : Bool) (disk : Disk) (call : Call) → Sound (at e stage a) disk → call_in (at e stage a) stage ≡ Some call →
     Sound (stepped_from (at e stage a) stage) (after_success call disk)
 step-at e Idle a disk call sound due = absurd (none-some call due)

@@ -19,13 +19,13 @@ use Rattle.journal_world.specs.Opening.{IsSuperblock}
 use Rattle.journal_world.specs.Sound.{MayBeSuperblock, Names, NamesStarted}
 use Rattle.journal_world.specs.Sound.MayBeSuperblock.{Clean, Old, New}
 
--- where no test fails, each passes
+-- if no test fails, each passes
 tests-pass : (tests : List (Bool × JournalError)) → first_failed tests ≡ None → AllByRecursion (λ t. t.0 ≡ true) tests
 tests-pass [] none = tt
 tests-pass ((true, e) ∷ tests) none = (refl, tests-pass tests none)
 tests-pass ((false, e) ∷ tests) none = absurd (none-some e (sym none))
 
--- where a choice between a refusal and the tests refuses nothing, nor do the tests
+-- a refusal or tests that refuse nothing: the tests refuse nothing
 other-side : (b : Bool) (e : JournalError) (tests : List (Bool × JournalError)) →
     (if b then Some e else first_failed tests) ≡ None → first_failed tests ≡ None
 other-side true e tests none = absurd (none-some e (sym none))
@@ -36,12 +36,12 @@ accepted-tests : (shape : Shape) (block : List ℕ) → super_refusal shape bloc
 accepted-tests shape block accepted =
     tests-pass (super_tests shape block) (other-side (shape.log_blocks == 0) BadLength (super_tests shape block) accepted)
 
--- the size that a superblock names is one that a block may have, and the device's
+-- a size that passes is an allowed one, and the device's
 size-passes : (named size : ℕ) → (is_block_size named && (named == size)) ≡ true →
     (named ≡ size) × ((size ≡ 1024) ⊎ ((size ≡ 2048) ⊎ (size ≡ 4096)))
 size-passes named size passes = (grind (arith, nat_tests), grind (arith, nat_tests))
 
--- a ring that passes its test begins behind block 0, and has blocks
+-- a ring that passes its test begins after block 0, and has blocks
 ring-passes : (first maxlen : ℕ) → (nat_lt 0 first && nat_le least_ring (maxlen - first)) ≡ true → (0 < first) × (16 ≤ maxlen - first)
 ring-passes first maxlen passes = (grind (arith, nat_tests), grind (arith, nat_tests))
 
@@ -50,7 +50,7 @@ pub accepted-block_size : (shape : Shape) (block : List ℕ) → super_refusal s
 accepted-block_size shape block accepted =
     (size-passes (super_in block).s_blocksize shape.block_size (accepted-tests shape block accepted).1.1.0).0
 
--- so the layout is one that is taken, in blocks of the device
+-- the layout is an allowed one, with blocks of the device's size
 pub accepted-layout : (shape : Shape) (block : List ℕ) → super_refusal shape block ≡ None →
     IsLayout (layout_of (super_in block)) × ((layout_of (super_in block)).block_size ≡ shape.block_size)
 accepted-layout shape block accepted =
@@ -58,25 +58,25 @@ accepted-layout shape block accepted =
     let sizes = passes.1 in
     (((grind arith), number-taken _), passes.0)
 
--- and a block has room for all fields of a superblock
+-- a block has room for all fields of a superblock
 pub accepted-size : (shape : Shape) (block : List ℕ) → super_refusal shape block ≡ None → 1024 ≤ shape.block_size
 accepted-size shape block accepted = let sizes = (size-passes (super_in block).s_blocksize shape.block_size (accepted-tests shape block accepted).1.1.0).1 in grind arith
 
--- the ring of an accepted log begins behind block 0
+-- the ring of an accepted log begins after block 0
 pub accepted-first : (shape : Shape) (block : List ℕ) → super_refusal shape block ≡ None → 0 < (super_in block).s_first
 accepted-first shape block accepted =
     (ring-passes (super_in block).s_first (super_in block).s_maxlen (accepted-tests shape block accepted).1.1.1.1.0).0
 
--- it has blocks
+-- the ring of an accepted log has at least 16 blocks
 pub accepted-ring : (shape : Shape) (block : List ℕ) → super_refusal shape block ≡ None → 16 ≤ (super_in block).s_maxlen - (super_in block).s_first
 accepted-ring shape block accepted =
     (ring-passes (super_in block).s_first (super_in block).s_maxlen (accepted-tests shape block accepted).1.1.1.1.0).1
 
--- and the log no more than a log may have
+-- an accepted log is at most `greatest_length` long
 pub accepted-length : (shape : Shape) (block : List ℕ) → super_refusal shape block ≡ None → (super_in block).s_maxlen ≤ greatest_length
 accepted-length shape block accepted = grind (arith, nat_tests)
 
--- features that pass their test, and are not those of 64-bit block numbers, are those of 32-bit ones
+-- accepted features other than the wide ones are the revoke feature
 narrow-passes : (compat ro_compat incompat users : ℕ) →
     ((compat == 0) && (ro_compat == 0) && ((incompat == revoke_feature) || (incompat == wide_features)) && (users == 1)) ≡ true →
     incompat ≢ wide_features → incompat ≡ revoke_feature
@@ -93,7 +93,7 @@ accepted-narrow shape block accepted other =
 within-passes : (m log : ℕ) → (nat_le least_length m && nat_le m greatest_length && nat_le m log) ≡ true → m ≤ log
 within-passes m log passes = grind (arith, nat_tests)
 
--- it lies within the log area
+-- an accepted log lies within the log area
 pub accepted-within : (shape : Shape) (block : List ℕ) → super_refusal shape block ≡ None → (super_in block).s_maxlen ≤ shape.log_blocks
 accepted-within shape block accepted = within-passes (super_in block).s_maxlen shape.log_blocks (accepted-tests shape block accepted).1.1.1.0
 
@@ -101,21 +101,21 @@ accepted-within shape block accepted = within-passes (super_in block).s_maxlen s
 pub first-is : {l : Layout} (shape : Shape) (ring : Ring) (block : List ℕ) → IsSuperblock shape l ring block → (super_in block).s_first ≡ ring.first
 first-is shape ring block is = ap (λ (r : Ring). r.first) is.ring_is
 
--- so it does not begin at block 0
+-- a ring does not begin at block 0
 pub first-above : {l : Layout} (shape : Shape) (ring : Ring) (block : List ℕ) → IsSuperblock shape l ring block → 0 < ring.first
 first-above shape ring block is =
     let above : 0 < (super_in block).s_first = accepted-first shape block is.accepted in
     let same : (super_in block).s_first ≡ ring.first = first-is shape ring block is in
     omega arith
 
--- and it has blocks
+-- a ring has at least 16 blocks
 pub blocks-some : {l : Layout} (shape : Shape) (ring : Ring) (block : List ℕ) → IsSuperblock shape l ring block → 16 ≤ ring.blocks
 blocks-some shape ring block is =
     let blocks : 16 ≤ (super_in block).s_maxlen - (super_in block).s_first = accepted-ring shape block is.accepted in
     let same : (super_in block).s_maxlen - (super_in block).s_first ≡ ring.blocks = ap (λ (r : Ring). r.blocks) is.ring_is in
     omega arith
 
--- whatever is named once the log has begun, it is a superblock
+-- what a started log's superblock names, it is a superblock
 started-superblock : (e : Engine) (round : Round) (block : List ℕ) → NamesStarted e round block → IsSuperblock e.shape e.layout e.ring block
 started-superblock e NoRound block names = names.is_superblock
 started-superblock e (Copies transaction next) block names = names.is_superblock

@@ -1,4 +1,4 @@
--- The superblock that says where the log begins: one with a new tail.
+-- The superblock with a new tail.
 use Rattle.std.proofs.Common.{◌∙◌, ap, ap₂, arith, inr, length-append, length-take, length-drop}
 use Rattle.std.specs.Prelude.{◌≡◌, ℕ, ◌+◌, ◌-◌, ◌==◌, ◌<◌, ◌≤◌, if◌then◌else◌, List, length}
 use Rattle.log_model.specs.Chain.{Ring, ring_place}
@@ -19,14 +19,14 @@ unfolding with_tail
 length-tail block sequence start long =
     simp (length-append, length-take, length-drop) (omega arith)
 
--- and the ring
+-- a new tail leaves the ring
 ring-tail : (block : List ℕ) (sequence start : ℕ) → 24 ≤ length block → ring_of (super_in (with_tail block sequence start)) ≡ ring_of (super_in block)
 ring-tail block sequence start long =
     ap₂ (λ (first blocks : ℕ). let r : Ring = record { first = first; blocks = blocks - first } in r)
     (before_tail 0x14 block sequence start (omega arith) long)
     (before_tail 0x10 block sequence start (omega arith) long)
 
--- and the layout
+-- a new tail leaves the layout
 pub layout-tail : (block : List ℕ) (sequence start : ℕ) → 24 ≤ length block → layout_of (super_in (with_tail block sequence start)) ≡ layout_of (super_in block)
 layout-tail block sequence start long =
     ap₂ (λ (size features : ℕ). let l : Layout = record { block_size = size; number_bytes = 4 + (if features == wide_features then 4 else 0) } in l)
@@ -43,7 +43,7 @@ place-names shape ring block position is =
     let within : ring_place ring position < ring.first + ring.blocks = place-within ring position (omega arith) in
     (omega arith, omega arith)
 
--- with the place of a position in its tail, it is the superblock of the same ring
+-- a superblock with a position's place as its tail has the same ring
 tail-superblock : {l : Layout} (shape : Shape) (ring : Ring) (block : List ℕ) (sequence position : ℕ) → IsSuperblock shape l ring block →
     IsSuperblock shape l ring (with_tail block sequence (ring_place ring position))
 tail-superblock shape ring block sequence position is =
@@ -57,7 +57,7 @@ tail-superblock shape ring block sequence position is =
       ring_is = ring-tail block sequence (ring_place ring position) (omega arith) ∙ is.ring_is;
     }
 
--- and names the transaction with this number, at that position, as the first
+-- it names the transaction of this number, at that position, as the first
 pub tail-names : {l : Layout} (shape : Shape) (ring : Ring) (block : List ℕ) (number position : ℕ) → IsSuperblock shape l ring block →
     number ≤ greatest_number + 1 → BeginsAt shape l ring number position (with_tail block number (ring_place ring position))
 tail-names shape ring block number position is small =

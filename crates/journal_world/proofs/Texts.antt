@@ -1,4 +1,4 @@
--- The log blocks of the transaction that is due, and of the committed ones with one more.
+-- The log blocks of the due transaction, and of one more committed one.
 use Rattle.std.proofs.Common.{inl, inr, sym, ◌∙◌, ap, subst, arith, length-append}
 use Rattle.std.specs.Prelude.{◌≡◌, ℕ, ◌+◌, ◌<◌, ◌≤◌, List, [], ◌∷◌, ◌++◌, length, map, take, unwrap_or, slice_get, Option, Some}
 use Rattle.std.proofs.lemmas.Bool.{cases_lt}
@@ -17,11 +17,11 @@ use Rattle.journal_world.proofs.Elements.{get-within, take-one_more}
 pub text-some : (t : Text) → 0 < length (text_blocks t)
 text-some t = omega (arith, length-append (pieces_blocks t.pieces) (t.commit ∷ []))
 
--- the blocks of texts with one more behind them
+-- the blocks of texts with one more after them
 pub texts-more : (ts : List Text) (t : Text) → texts_blocks (ts ++ t ∷ []) ≡ texts_blocks ts ++ text_blocks t
 texts-more ts t = flat_map-append text_blocks ts (t ∷ []) ∙ ap (λ bs. texts_blocks ts ++ bs) (append-nil (text_blocks t))
 
--- a batch is due where more are accepted than are committed
+-- a batch is due if more are accepted than are committed
 pub due-batch : (e : Engine) → e.committed < length e.accepted → (b : Batch) × (slice_get e.accepted e.committed ≡ Some b)
 due-batch e more = there e.accepted e.committed more
   where
@@ -29,21 +29,21 @@ due-batch e more = there e.accepted e.committed more
     there [] k below = absurd (omega arith)
     there (b ∷ bs) k below = (_, get-within (b ∷ bs) b k below)
 
--- its blocks are due
+-- its blocks are the due ones
 pub due-of : (e : Engine) (b : Batch) → slice_get e.accepted e.committed ≡ Some b → due_blocks e ≡ text_blocks (text_of e b)
 due-of e b there = ap (blocks_if e) there
 
--- so some block is due
+-- so there is a due block
 pub due-some : (e : Engine) → length e.accepted ≡ e.committed + 1 → 0 < length (due_blocks e)
 due-some e one =
     let due = due-batch e (omega arith) in
     subst (λ (bs : List (List ℕ)). 0 < length bs) (sym (due-of e due.0 due.1)) (text-some (text_of e due.0))
 
--- none is where all are committed
+-- no block is due if all are committed
 pub due-none : (e : Engine) → length e.accepted ≤ e.committed → due_blocks e ≡ []
 due-none e all = ap (blocks_if e) (slice_get_past e.accepted e.committed all)
 
--- so where a block is due, more are accepted than are committed
+-- if a block is due, more are accepted than are committed
 pub due-more : (e : Engine) (i : ℕ) (v : List ℕ) → slice_get (due_blocks e) i ≡ Some v → e.committed < length e.accepted
 due-more e i v stands =
     elim (cases_lt e.committed (length e.accepted)) [
@@ -61,7 +61,7 @@ committed-more e more =
     ∙ texts-more (committed_texts e) (text_of e due.0)
     ∙ ap (λ (bs : List (List ℕ)). texts_blocks (committed_texts e) ++ bs) (sym (due-of e due.0 due.1))
 
--- a block of a list below its length
+-- there is a block at each place below the length
 pub block-there : (blocks : List (List ℕ)) (k : ℕ) → k < length blocks → slice_get blocks k ≡ Some (block_at blocks k)
 block-there blocks k below = get-within blocks [] k below
 
@@ -69,6 +69,6 @@ block-there blocks k below = get-within blocks [] k below
 pub block-front : (xs ys : List (List ℕ)) (k : ℕ) → k < length xs → block_at (xs ++ ys) k ≡ block_at xs k
 block-front xs ys k below = ap (λ (o : Option (List ℕ)). unwrap_or o []) (get-front xs ys k below)
 
--- a block of the second
+-- a block of the second of two joined lists
 pub block-behind : (xs ys : List (List ℕ)) (k j : ℕ) → k ≡ length xs + j → block_at (xs ++ ys) k ≡ block_at ys j
 block-behind xs ys k j place = ap (λ (o : Option (List ℕ)). unwrap_or o []) (get-behind xs ys k j place)

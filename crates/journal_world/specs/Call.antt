@@ -1,5 +1,6 @@
--- A call of the device that changes the disk, and what it leaves, whether it succeeds or fails. Source: a disk with a
--- volatile write cache, as flush requests suppose (the kernel's writeback_cache_control.rst).
+-- Which calls change the disk, and what each leaves if it succeeds or fails.
+-- Source: a disk with a volatile write cache, as flush requests suppose (the kernel's
+-- writeback_cache_control.rst).
 use Rattle.std.specs.Prelude.{◌≡◌, ℕ, List}
 use Rattle.journal_model.specs.declared.number.Area.{Area}
 use Rattle.journal_model.specs.Disk.{Disk, written, handed_over, flushed}
@@ -8,12 +9,11 @@ pub data Call : Type 0 where
   Write : (area : Area) → (block : ℕ) → (bytes : List ℕ) → Call
   Flush : (area : Area) → Call
 
--- the disk after the call succeeded
 abbrev pub after_success : Call → Disk → Disk
 after_success (Write a n v) disk = written disk a n v
 after_success (Flush a) disk = flushed disk a
 
--- the disk after the call failed: it may have changed nothing; a write may be whole, or handed over and not read
+-- after a failed call: nothing changed; or a write is whole, or handed over but not read
 pub data IsAfterFault : Call → Disk → Disk → Type 0 where
   Undone : (call : Call) (old new : Disk) → new ≡ old → IsAfterFault call old new
   Whole : (a : Area) (n : ℕ) (v : List ℕ) (old new : Disk) → new ≡ written old a n v → IsAfterFault (Write a n v) old new

@@ -1,5 +1,5 @@
--- What the steps of a front do to credits: how many are held afterwards, and how many the credit word has. Source: journalling.rst
--- (the credits of handles).
+-- How each event of a front changes the credits held and the credit word.
+-- Source: journalling.rst (the credits of handles).
 use Rattle.std.specs.Prelude.{◌≡◌, ⊤, ℕ, ◌+◌, List, length, map}
 use Rattle.journal_model.specs.Credits.{Accounts}
 use Rattle.journal_model.specs.Transaction.{entries}
@@ -8,7 +8,6 @@ use Rattle.journal_world.specs.Front.FrontEvent.{Reserve, RefuseReserve, TakeBac
 use Rattle.journal_world.specs.Journal.{Event, Journal}
 use Rattle.journal_world.specs.Journal.Event.{FrontStep, Seal, CommitStep, CommitFault, CheckpointStep, CheckpointFault, ReadBlock, ReadFault, DirectWrite, DirectWriteFault, DirectSync, DirectSyncFault, Finish, AbortMark}
 
--- how many credits are held after an event: those that are granted are more, those that come back fewer
 abbrev pub HeldAfter : Front → FrontEvent → ℕ → Type 0
 HeldAfter old (Reserve n) after = after ≡ held old + n
 HeldAfter old (RefuseReserve n) after = after ≡ held old
@@ -24,7 +23,7 @@ HeldAfter old (StopHandle h) after = (handle : IsOpen old h) × (after + handle.
 HeldAfter old Lock after = after ≡ held old
 HeldAfter old (Raise t) after = after ≡ held old
 
--- how many credits of refused reserves are not taken back after an event
+-- what refused reserves still have in the word
 abbrev pub RefusedAfter : Front → FrontEvent → ℕ → Type 0
 RefusedAfter old (Reserve n) after = after ≡ old.refused
 RefusedAfter old (RefuseReserve n) after = after ≡ old.refused + n
@@ -40,12 +39,11 @@ RefusedAfter old (StopHandle h) after = after ≡ old.refused
 RefusedAfter old Lock after = after ≡ old.refused
 RefusedAfter old (Raise t) after = after ≡ old.refused
 
--- the front where callers hold so many credits more, of which no handle was made, and refused reserves have so many more to take
--- back
+-- the front with so many more reserved and refused credits
 abbrev pub beside : ℕ → ℕ → Front → Front
 beside reserved refused f = record f { reserved = f.reserved + reserved; refused = f.refused + refused }
 
--- the event needs the front at hand: it is no step of a caller on the credit word, and no load of the mark
+-- neither a caller's step on the credit word nor a load of the mark
 abbrev pub IsAtHand : FrontEvent → Type 0
 IsAtHand (Reserve n) = ⊥
 IsAtHand (RefuseReserve n) = ⊥
@@ -61,8 +59,8 @@ IsAtHand (StopHandle h) = ⊤
 IsAtHand Lock = ⊤
 IsAtHand (Raise t) = ⊤
 
--- where the credits of a front lie: in values of these counts, with its open handles, and one with each entry of the running
--- transaction; and what each of these refused reserves has not taken back
+-- where the credits of a front lie: in `values`, with open handles, one with each entry of the running transaction; and
+-- what each refused reserve has not taken back
 abbrev pub accounts_of : Front → (values refused : List ℕ) → Accounts
 accounts_of f values refused = record {
   values = values;
@@ -71,7 +69,7 @@ accounts_of f values refused = record {
   refused = refused;
 }
 
--- how many credits are held after an event of a journal: those of the entries of a transaction come back at its seal
+-- a seal returns the credits of the transaction's entries
 abbrev pub HeldBehind : Front → Event → ℕ → Type 0
 HeldBehind old (FrontStep event) after = HeldAfter old event after
 HeldBehind old Seal after = after + length (entries old.running.steps) ≡ held old
@@ -88,7 +86,6 @@ HeldBehind old DirectSyncFault after = after ≡ held old
 HeldBehind old Finish after = after ≡ held old
 HeldBehind old AbortMark after = after ≡ held old
 
--- the event is no step of a caller on the credit word, and no load of the mark
 abbrev pub NeedsFront : Event → Type 0
 NeedsFront (FrontStep event) = IsAtHand event
 NeedsFront Seal = ⊤
@@ -105,6 +102,5 @@ NeedsFront DirectSyncFault = ⊤
 NeedsFront Finish = ⊤
 NeedsFront AbortMark = ⊤
 
--- the journal where callers hold so many credits more, and refused reserves have so many more to take back
 abbrev pub beside_all : ℕ → ℕ → Journal → Journal
 beside_all reserved refused j = record j { front = beside reserved refused j.front }

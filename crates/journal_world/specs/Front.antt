@@ -1,7 +1,6 @@
--- The front: the transaction that handles join and write to, the ones that are sealed, the handles that are open, the
--- credits and the mark; and each step of it alone, none of which reads the engine. The steps on the credit word and the mark
--- are made by callers of their own, without a lock, and so may come between any two others. Source: journalling.rst (handles,
--- transactions, credits), fs/jbd2/transaction.c by behaviour.
+-- What the front holds, and its steps, none of which reads the engine. Callers step on the credit word and the mark without a
+-- lock, so such a step may come between any two others.
+-- Source: journalling.rst (handles, transactions, credits), fs/jbd2/transaction.c by behaviour.
 use Rattle.std.specs.Prelude.{◌≡◌, ℕ, zero, suc, ◌+◌, ◌-◌, ◌^◌, ◌<◌, ◌≤◌, Bool, true, false, if◌then◌else◌, max, List, [], ◌∷◌, ◌++◌, length, drop, is_some, None}
 use Rattle.std.specs.List.{flat_map, sum_by}
 use Rattle.journal_model.specs.declared.transaction.Op.{Op}
@@ -15,23 +14,21 @@ use Rattle.journal_model.specs.Transaction.{History, Transaction, effect, entrie
 pub record Front : Type 0 where
   pub layout : Layout  -- of the log
   pub home_blocks : ℕ  -- of the device
-  pub capacity : ℕ  -- the most credits that are held
-  pub reserved : ℕ  -- the credits granted that no handle was made of, and that were not given back
-  pub refused : ℕ  -- what refused reserves have added to the credit word, and not taken back yet
-  pub finished : ℕ  -- the front knows that transactions up to this number are committed
-  pub mark : ℕ  -- callers are told so of those up to this one
+  pub capacity : ℕ  -- the most credits that may be held
+  pub reserved : ℕ  -- credits granted, with no handle yet and not given back
+  pub refused : ℕ  -- added to the credit word by refused reserves, not taken back yet
+  pub finished : ℕ  -- transactions up to this number are known to be committed
+  pub mark : ℕ  -- transactions up to this number are acknowledged
   pub sealed : History  -- since the opening
-  pub running : Transaction  -- the one that handles join and write to, until it is sealed
-  pub open_handles : List (ℕ × ℕ)  -- those of its handles that have not stopped, each with the credits that it has left
-  pub locked : Bool  -- it takes no further handles
-  pub given : ℕ  -- how many handle numbers have been given out
-  pub aborted : Bool  -- the device has failed, as far as the front knows
+  pub running : Transaction  -- handles join and write to it until it is sealed
+  pub open_handles : List (ℕ × ℕ)  -- its handles that have not stopped, each with its credits left
+  pub locked : Bool  -- the running transaction takes no further handles
+  pub given : ℕ  -- handle numbers given out
+  pub aborted : Bool  -- the front knows that the device has failed
 
--- a transaction that no handle has joined
 abbrev pub empty_transaction : ℕ → Transaction
 empty_transaction tid = record { tid = tid; handles = []; steps = [] }
 
--- the front of a journal whose first transaction has this number
 abbrev pub fresh_front : Layout → ℕ → ℕ → ℕ → Front
 fresh_front layout home_blocks capacity first = record {
   layout = layout;
@@ -49,43 +46,38 @@ fresh_front layout home_blocks capacity first = record {
   aborted = false;
 }
 
--- the credits that handles have left
 abbrev pub left_in : List (ℕ × ℕ) → ℕ
 left_in handles = sum_by (λ h. h.1) handles
 
--- the credits held: those that no handle was made of, those that open handles have left, and one for each entry of the
--- running transaction
+-- reserved, left to open handles, and one for each entry of the running transaction
 abbrev pub held : Front → ℕ
 held f = f.reserved + left_in f.open_handles + length (entries f.running.steps)
 
--- the number in the credit word: the credits held, and what refused reserves have not taken back
+-- the credits held, and what refused reserves have not taken back
 abbrev pub credit_word : Front → ℕ
 credit_word f = held f + f.refused
 
--- how many the credit word leaves
 abbrev pub credits_left : Front → ℕ
 credits_left f = f.capacity - credit_word f
 
--- the number of the next handle
 abbrev pub next_handle : Front → ℕ
 next_handle f = f.given + 1
 
--- the handles of a history's transactions, in order
 abbrev pub handles_of : History → List ℕ
 handles_of ts = flat_map (λ t. t.handles) ts
 
--- the numbers of so many handles, in the order in which they are given out
+-- the numbers 1 to n, in order
 abbrev pub handle_numbers : ℕ → List ℕ
 handle_numbers zero = []
 handle_numbers (suc n) = handle_numbers n ++ suc n ∷ []
 
--- a further handle may join: the transaction is not locked, and neither its number nor the handle's is too great
+-- the transaction is unlocked, and neither its number nor the handle's is too great
 pub record MayJoin (f : Front) : Type 0 where
   pub unlocked : f.locked ≡ false
   pub number : f.running.tid ≤ greatest_number
   pub handle : next_handle f < 2 ^ 64
 
--- the handle is open, with so many credits left: it stands between these others
+-- the handle is open, with so many credits left, between these others
 pub record IsOpen (f : Front) (h : ℕ) : Type 0 where
   pub left : ℕ
   pub before : List (ℕ × ℕ)
@@ -101,16 +93,16 @@ revoke_step h b = record { handle = h; block = b; op = Revoke }
 abbrev pub read_step : ℕ → ℕ → List ℕ → Step
 read_step h b v = record { handle = h; block = b; op = Read v }
 
--- the block has no entry in the transaction yet, so that a touch of it, a write or a revoke, takes a credit
+-- the running transaction has no entry of the block, so a touch takes a credit
 abbrev pub IsFirstTouch : Front → ℕ → Type 0
 IsFirstTouch f b = effect b f.running.steps ≡ None
 
--- how many of its credits a handle has left once it has touched the block
+-- a handle's credits after it touches the block
 abbrev pub left_after : Front → ℕ → ℕ → ℕ
 left_after f b left = if is_some (effect b f.running.steps) then left else left - 1
 
--- What the front does by itself. The first six are steps of callers on the credit word and the mark, which ask for nothing
--- else of the front.
+-- A step of the front alone. The first six are callers' steps on the credit word and the mark, which need nothing else of the
+-- front.
 pub data FrontEvent : Type 0 where
   Reserve : (credits : ℕ) → FrontEvent
   RefuseReserve : (credits : ℕ) → FrontEvent
@@ -129,7 +121,7 @@ pub data FrontEvent : Type 0 where
 abbrev pub reserving : Front → ℕ → Front
 reserving f n = record f { reserved = f.reserved + n }
 
--- Credits are granted where the credit word leaves as many.
+-- A reserve is granted if the word leaves as many credits.
 pub record Reserves (old : Front) (n : ℕ) (new : Front) : Type 0 where
   pub free : n ≤ credits_left old
   pub after : new ≡ reserving old n
@@ -137,8 +129,8 @@ pub record Reserves (old : Front) (n : ℕ) (new : Front) : Type 0 where
 abbrev pub refusing : Front → ℕ → Front
 refusing f n = record f { refused = f.refused + n }
 
--- Where it leaves fewer, the reserve is refused. The word has them all the same, until they are taken back. (A reserve of more than
--- can ever be held touches no word.)
+-- A reserve is refused if the word leaves fewer; its credits stay there until taken back. (A reserve of more than `capacity`
+-- touches no word.)
 pub record RefusesReserve (old : Front) (n : ℕ) (new : Front) : Type 0 where
   pub possible : n ≤ old.capacity
   pub few : credits_left old < n
@@ -155,17 +147,17 @@ pub record TakesBack (old : Front) (n : ℕ) (new : Front) : Type 0 where
 abbrev pub giving_back : Front → ℕ → Front
 giving_back f n = record f { reserved = f.reserved - n }
 
--- Credits come back that no handle was made of.
+-- Reserved credits come back.
 pub record GivesBack (old : Front) (n : ℕ) (new : Front) : Type 0 where
   pub granted : n ≤ old.reserved
   pub after : new ≡ giving_back old n
 
--- A load of the credit word finds it, and changes nothing.
+-- A load of the credit word changes nothing.
 pub record LoadsCredits (old : Front) (found : ℕ) (new : Front) : Type 0 where
   pub word : found ≡ credit_word old
   pub after : new ≡ old
 
--- So does a load of the mark.
+-- A load of the mark changes nothing.
 pub record LoadsMark (old : Front) (found : ℕ) (new : Front) : Type 0 where
   pub mark : found ≡ old.mark
   pub after : new ≡ old
@@ -178,7 +170,7 @@ joining f n = record f {
   given = next_handle f;
 }
 
--- A handle joins the transaction, with credits that no other was made of.
+-- A handle joins the transaction with reserved credits.
 pub record Joins (old : Front) (n : ℕ) (new : Front) : Type 0 where
   pub running : old.aborted ≡ false
   pub may : MayJoin old
@@ -191,7 +183,7 @@ extending f h n handle = record f {
   open_handles = handle.before ++ (h, handle.left + n) ∷ handle.behind;
 }
 
--- An open handle gets further credits, that no other was made of, while its transaction takes handles.
+-- An open handle gets more reserved credits while its transaction is unlocked.
 pub record ExtendsHandle (old : Front) (h n : ℕ) (new : Front) : Type 0 where
   pub running : old.aborted ≡ false
   pub unlocked : old.locked ≡ false
@@ -199,7 +191,7 @@ pub record ExtendsHandle (old : Front) (h n : ℕ) (new : Front) : Type 0 where
   pub credits : n ≤ old.reserved
   pub after : new ≡ extending old h n handle
 
--- the front with one more step of a handle, which touches a block
+-- the front after a touch
 abbrev pub touching : (f : Front) (h b : ℕ) (op : Op) → IsOpen f h → Front
 touching f h b op handle = record f {
   running = record f.running { steps = f.running.steps ++ record { handle = h; block = b; op = op } ∷ [] };
@@ -212,7 +204,7 @@ writing f h b v handle = touching f h b (Write v) handle
 abbrev pub revoking : (f : Front) (h b : ℕ) → IsOpen f h → Front
 revoking f h b handle = touching f h b Revoke handle
 
--- An open handle writes one block that may be touched. The first touch of a block takes one of its credits.
+-- An open handle writes an allowed block; the block's first touch takes a credit.
 pub record WritesBlock (old : Front) (h b : ℕ) (v : List ℕ) (new : Front) : Type 0 where
   pub running : old.aborted ≡ false
   pub handle : IsOpen old h
@@ -221,8 +213,7 @@ pub record WritesBlock (old : Front) (h b : ℕ) (v : List ℕ) (new : Front) : 
   pub whole : length v ≡ old.layout.block_size
   pub after : new ≡ writing old h b v handle
 
--- An open handle revokes one block that may be touched. The first touch of a block takes one of its credits. (Where the
--- block's entry is a revoke already, the step is noted, and the entries are the same.)
+-- An open handle revokes an allowed block; the block's first touch takes a credit. (A second revoke adds a step and no entry.)
 pub record RevokesBlock (old : Front) (h b : ℕ) (new : Front) : Type 0 where
   pub running : old.aborted ≡ false
   pub handle : IsOpen old h
@@ -233,7 +224,7 @@ pub record RevokesBlock (old : Front) (h b : ℕ) (new : Front) : Type 0 where
 abbrev pub stopping : (f : Front) (h : ℕ) → IsOpen f h → Front
 stopping f h handle = record f { open_handles = handle.before ++ handle.behind }
 
--- An open handle stops. The credits that it has left are then held by nobody.
+-- Nobody holds the credits that the stopped handle had left.
 pub record StopsHandle (old : Front) (h : ℕ) (new : Front) : Type 0 where
   pub handle : IsOpen old h
   pub after : new ≡ stopping old h handle
@@ -241,7 +232,7 @@ pub record StopsHandle (old : Front) (h : ℕ) (new : Front) : Type 0 where
 abbrev pub locking : Front → Front
 locking f = record f { locked = true }
 
--- A transaction that a handle has joined takes no further ones.
+-- A transaction that some handle has joined takes no more.
 pub record Locks (old new : Front) : Type 0 where
   pub running : old.aborted ≡ false
   pub joined : 0 < length old.running.handles
@@ -250,12 +241,12 @@ pub record Locks (old new : Front) : Type 0 where
 abbrev pub raising : Front → ℕ → Front
 raising f t = record f { mark = max f.mark t }
 
--- The mark is raised to a number that is finished, where it was lower.
+-- The mark rises to a finished number.
 pub record Raises (old : Front) (t : ℕ) (new : Front) : Type 0 where
   pub finished : t ≤ old.finished
   pub after : new ≡ raising old t
 
--- what each event does
+-- the step of each event
 abbrev pub FrontHappens : Front → FrontEvent → Front → Type 0
 FrontHappens old (Reserve n) new = Reserves old n new
 FrontHappens old (RefuseReserve n) new = RefusesReserve old n new
@@ -275,11 +266,11 @@ FrontHappens old (Raise t) new = Raises old t new
 abbrev pub transactions : Front → History
 transactions f = f.sealed ++ f.running ∷ []
 
--- how many of them the front knows to be committed
+-- how many transactions the front knows to be committed
 abbrev pub finished_count : Front → ℕ
 finished_count f = f.finished + 1 + length f.sealed - f.running.tid
 
--- those that are not finished, the running one last
+-- the others, the running one last
 abbrev pub unfinished : Front → History
 unfinished f = drop (finished_count f) (transactions f)
 
@@ -287,13 +278,13 @@ unfinished f = drop (finished_count f) (transactions f)
 abbrev pub IsUntouched : Front → ℕ → Type 0
 IsUntouched f b = last_effect b (unfinished f) ≡ None
 
--- the transaction may be sealed: it is locked, has no open handle, and the one before is finished
+-- locked, without open handles, and the one before is finished
 pub record MaySeal (f : Front) : Type 0 where
   pub locked : f.locked ≡ true
   pub stopped : f.open_handles ≡ []
   pub finished : f.finished + 1 ≡ f.running.tid
 
--- it is sealed, and the credits of its entries are held by nobody
+-- the entries of the sealed transaction hold no credits any more
 abbrev pub sealing : Front → Front
 sealing f = record f {
   sealed = f.sealed ++ f.running ∷ [];
@@ -301,14 +292,13 @@ sealing f = record f {
   locked = false;
 }
 
--- the front knows that one more transaction is committed; nobody is told yet
+-- one more transaction is known to be committed; it is not acknowledged yet
 abbrev pub finishing : Front → Front
 finishing f = record f { finished = f.finished + 1 }
 
--- the front with one more step of a handle, which reads a block: it takes no credit
+-- a read takes no credit
 abbrev pub reading_block : Front → ℕ → ℕ → List ℕ → Front
 reading_block f h b v = record f { running = record f.running { steps = f.running.steps ++ read_step h b v ∷ [] } }
 
--- it is told that the device has failed
 abbrev pub aborting : Front → Front
 aborting f = record f { aborted = true }

@@ -1,4 +1,5 @@
--- The journal: a front and an engine, and the atomic steps of both. Source: journalling.rst, fs/jbd2 by behaviour.
+-- Which atomic steps a journal, a front with an engine, may take.
+-- Source: journalling.rst, fs/jbd2 by behaviour.
 use Rattle.std.specs.Prelude.{◌≡◌, ℕ, ◌+◌, ◌<◌, ◌≤◌, nat_eq, true, false, List, [], length, map, Contains, Ok}
 use Rattle.std.specs.List.{AllByRecursion, IsDistinct}
 use Rattle.journal_model.specs.declared.entry.Batch.{Batch}
@@ -22,7 +23,6 @@ pub record Journal : Type 0 where
   pub front : Front
   pub engine : Engine
 
--- one atomic step
 pub data Event : Type 0 where
   FrontStep : (event : FrontEvent) → Event
   Seal : Event
@@ -39,11 +39,10 @@ pub data Event : Type 0 where
   Finish : Event
   AbortMark : Event
 
--- what is handed to the engine for a transaction: its entries
 abbrev pub batch_of : Transaction → Batch
 batch_of t = record { tid = t.tid; entries = entries t.steps }
 
--- A step of the front alone: it reads neither the engine nor the disk, and changes neither.
+-- A step of the front alone neither reads nor changes engine and disk.
 pub record StepsFront (old : Journal) (disk : Disk) (event : FrontEvent) (new : Journal) (after : Disk) : Type 0 where
   pub front : FrontHappens old.front event new.front
   pub engine : new.engine ≡ old.engine
@@ -60,7 +59,7 @@ pub record Commits (old : Journal) (disk : Disk) (new : Journal) (after : Disk) 
   pub front : new.front ≡ old.front
   pub engine : CommitSteps old.engine disk new.engine after
 
--- Where the device fails, the engine knows it; the front is told by a step of its own.
+-- A failed call aborts the engine; another step notifies the front.
 pub record CommitFails (old : Journal) (disk : Disk) (new : Journal) (after : Disk) : Type 0 where
   pub front : new.front ≡ old.front
   pub engine : CommitFaults old.engine disk new.engine after
@@ -73,7 +72,7 @@ pub record CheckpointFails (old : Journal) (disk : Disk) (new : Journal) (after 
   pub front : new.front ≡ old.front
   pub engine : RoundFaults old.engine disk new.engine after
 
--- An open handle reads one block that may be touched: these are the bytes that it sees. No credit goes.
+-- An open handle reads an allowed block and sees these bytes, without a credit.
 pub record ReadsBlock (old : Journal) (disk : Disk) (h b : ℕ) (v : List ℕ) (new : Journal) (after : Disk) : Type 0 where
   pub running : old.front.aborted ≡ false
   pub handle : IsOpen old.front h
@@ -83,14 +82,14 @@ pub record ReadsBlock (old : Journal) (disk : Disk) (h b : ℕ) (v : List ℕ) (
   pub engine : new.engine ≡ old.engine
   pub disk_is : after ≡ disk
 
--- A read of home fails: the journal is aborted.
+-- A failed read of home aborts the journal.
 pub record ReadFails (old : Journal) (disk : Disk) (new : Journal) (after : Disk) : Type 0 where
   pub running : old.engine.aborted ≡ false
   pub front : new.front ≡ aborting old.front
   pub engine : new.engine ≡ record old.engine { aborted = true }
   pub disk_is : after ≡ disk
 
--- A block is written directly, of which no transaction that is not finished has an entry.
+-- No unfinished transaction has an entry of the block.
 pub record WritesDirect (old : Journal) (disk : Disk) (b : ℕ) (v : List ℕ) (new : Journal) (after : Disk) : Type 0 where
   pub untouched : IsUntouched old.front b
   pub front : new.front ≡ old.front
@@ -101,7 +100,7 @@ pub record DirectWriteFails (old : Journal) (disk : Disk) (b : ℕ) (v : List �
   pub front : new.front ≡ aborting old.front
   pub engine : DirectFaults old.engine disk (Write Home b v) new.engine after
 
--- Home is flushed, so that direct writes are durable.
+-- A flush of home makes direct writes durable.
 pub record SyncsDirect (old : Journal) (disk : Disk) (new : Journal) (after : Disk) : Type 0 where
   pub front : new.front ≡ old.front
   pub engine : DirectSteps old.engine disk (Flush Home) new.engine after
@@ -110,21 +109,21 @@ pub record DirectSyncFails (old : Journal) (disk : Disk) (new : Journal) (after 
   pub front : new.front ≡ aborting old.front
   pub engine : DirectFaults old.engine disk (Flush Home) new.engine after
 
--- The front is told of a transaction that the engine has committed.
+-- The front is notified of one more committed transaction.
 pub record Finishes (old : Journal) (disk : Disk) (new : Journal) (after : Disk) : Type 0 where
   pub committed : old.front.finished + 1 < old.engine.first + old.engine.committed
   pub front : new.front ≡ finishing old.front
   pub engine : new.engine ≡ old.engine
   pub disk_is : after ≡ disk
 
--- The front is told that the device has failed.
+-- The front is notified that the device has failed.
 pub record MarksAbort (old : Journal) (disk : Disk) (new : Journal) (after : Disk) : Type 0 where
   pub failed : old.engine.aborted ≡ true
   pub front : new.front ≡ aborting old.front
   pub engine : new.engine ≡ old.engine
   pub disk_is : after ≡ disk
 
--- what each event does
+-- the step of each event
 abbrev pub Happens : Journal → Disk → Event → Journal → Disk → Type 0
 Happens old disk (FrontStep event) new after = StepsFront old disk event new after
 Happens old disk Seal new after = Seals old disk new after
@@ -141,10 +140,10 @@ Happens old disk DirectSyncFault new after = DirectSyncFails old disk new after
 Happens old disk Finish new after = Finishes old disk new after
 Happens old disk AbortMark new after = MarksAbort old disk new after
 
--- What a front keeps beside its engine. It knows the layout of the log and how many home blocks there are, and where it was
--- told that the device has failed, that is so. The engine has accepted the entries of its sealed transactions, and the running
--- one has the next number. What it knows to be committed is so, and callers are told no more than that. No more credits are
--- held than a transaction may have; and its open handles are different ones that joined the running transaction.
+-- What a front keeps beside its engine. It knows the log's layout and the number of home blocks; if it is aborted, so is the
+-- engine. The engine has accepted the sealed transactions, and the running one has the next number. Finished transactions
+-- are committed, acknowledged ones finished. The credits held are within the capacity. Open handles differ, and joined the
+-- running transaction.
 pub record KeepsFront (f : Front) (e : Engine) : Type 0 where
   pub layout : f.layout ≡ e.layout
   pub home_blocks : f.home_blocks ≡ e.shape.home_blocks
@@ -158,7 +157,6 @@ pub record KeepsFront (f : Front) (e : Engine) : Type 0 where
   pub joined : AllByRecursion (λ h. Contains f.running.handles h.0) f.open_handles
   pub once : IsDistinct nat_eq (map (λ h. h.0) f.open_handles)
 
--- the engine of an opened log: nothing is accepted yet
 abbrev pub fresh_engine : Shape → List ℕ → ℕ → Engine
 fresh_engine shape superblock next =
     let s : Super = super_in superblock in
@@ -182,7 +180,6 @@ fresh_engine shape superblock next =
       aborted = false;
     }
 
--- the journal of an opened log
 pub record IsFresh (shape : Shape) (superblock : List ℕ) (next : ℕ) (journal : Journal) : Type 0 where
   pub engine : journal.engine ≡ fresh_engine shape superblock next
   pub front : journal.front ≡ fresh_front journal.engine.layout journal.engine.shape.home_blocks journal.front.capacity next

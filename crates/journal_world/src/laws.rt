@@ -1,4 +1,4 @@
-//! What the steps keep. Each function states a law of the words in `specs/`, and has no body to run.
+//! Which facts every step keeps. Each function states one law; no body runs.
 ghost use Rattle.std.specs.Prelude.{◌≡◌, ◌<◌, ◌≤◌, ℕ, List, sum};
 ghost use Rattle.journal_model.specs.Credits.{credit_word as word_of, credits_held};
 ghost use Rattle.journal_model.specs.Disk.{Disk};
@@ -11,14 +11,14 @@ ghost use Rattle.journal_world.specs.Front.FrontEvent.{LoadCredits, LoadMark, Re
 ghost use Rattle.journal_world.specs.Front.{Front, FrontEvent, FrontHappens, credit_word, credits_left, held};
 ghost use Rattle.journal_world.specs.Journal.{Event, Happens, Journal};
 
-/// The credits that a front holds are the definitions', and so is the number in its credit word: each credit lies in a value of a
-/// caller, with an open handle, or with an entry of the running transaction.
+/// The credits held and the credit word are the definitions': a credit lies in a caller's value, with an open handle, or with an
+/// entry of the running transaction.
 pub fn credits_held_are_the_definitions()
     ensures { (f : Front) (values refused : List ℕ) → sum values ≡ f.reserved → sum refused ≡ f.refused →
         (held f ≡ credits_held (accounts_of f values refused)) × (credit_word f ≡ word_of (accounts_of f values refused)) }
 {}
 
-/// By the credit word alone a reserve is granted or refused; and a load finds the word, or the mark.
+/// The credit word alone decides whether a reserve is granted or refused. A load returns the word, or the mark.
 pub fn the_credit_word_decides()
     ensures granted { (old new : Front) (n : ℕ) → FrontHappens old (Reserve n) new → n ≤ credits_left old }
     ensures refused { (old new : Front) (n : ℕ) → FrontHappens old (RefuseReserve n) new → (n ≤ old.capacity) × (credits_left old < n) }
@@ -26,17 +26,16 @@ pub fn the_credit_word_decides()
     ensures mark { (old new : Front) (found : ℕ) → FrontHappens old (LoadMark found) new → found ≡ old.mark }
 {}
 
-/// No step loses or makes a credit: a reserve that is granted alone adds to those that are held; what is given back or was left to a
-/// handle that stops is no longer held, and those of the entries of a transaction come back at its seal. What a refused reserve
-/// adds to the credit word is taken back by a step of its own.
+/// No step loses or makes a credit. Only a granted reserve adds to the credits held. They leave when given back, when their handle
+/// stops, and, for entries, at the seal. A refused reserve adds to the credit word until its own step takes that back.
 pub fn no_credit_is_lost_or_made()
     ensures held { (old new : Front) (event : FrontEvent) → FrontHappens old event new → HeldAfter old event (held new) }
     ensures journal { (old new : Journal) (disk after : Disk) (event : Event) → Happens old disk event new after → HeldBehind old.front event (held new.front) }
     ensures refused { (old new : Front) (event : FrontEvent) → FrontHappens old event new → RefusedAfter old event new.refused }
 {}
 
-/// Whatever credits callers hold beside, of which no handle was made, and whatever their refused reserves have not taken back:
-/// each step that is made with the front at hand is the same, and so are those of front and engine together.
+/// Steps with the front at hand do not depend on the credits that callers hold without a handle, nor on what refused reserves have
+/// not taken back. The same holds of steps of front and engine together.
 pub fn what_callers_hold_changes_no_step_of_the_front()
     ensures journal { (old new : Journal) (disk after : Disk) (event : Event) (reserved refused : ℕ) → NeedsFront event → Happens old disk event new after →
         Happens (beside_all reserved refused old) disk event (beside_all reserved refused new) after }
@@ -44,8 +43,8 @@ pub fn what_callers_hold_changes_no_step_of_the_front()
         FrontHappens (beside reserved refused old) event (beside reserved refused new) }
 {}
 
-/// A block is left to home just where the definitions give the right to write it directly, over the transactions that
-/// were handed over: the committed ones together leave no copy of it, and none behind them has an entry of it.
+/// A block is left to home exactly when `HasDirectRight` holds over the accepted transactions: the committed ones together leave no
+/// copy of it, and no later one has an entry of it.
 pub fn left_to_home_is_the_right_to_write()
     ensures { (e : Engine) (ts : History) (b : ℕ) → AreBatchesOf ts e.accepted → (IsLeftToHome e b → HasDirectRight ts e.committed e.committed b) × (HasDirectRight ts e.committed e.committed b → IsLeftToHome e b) }
 {}

@@ -1,6 +1,7 @@
-//! The journal as a machine: its state beside a disk, each atomic step that may change either, and what every run of
-//! such steps keeps. There is no device, lock or thread here. The crate that runs the journal has contracts that cite
-//! these very steps, so the law over all runs speaks of what it does.
+//! The journal as a pure machine: its state beside a disk, its atomic steps, and what every run keeps.
+//!
+//! Nothing here runs. Contracts of the crates that run the journal cite these steps, so the laws hold of what they
+//! do.
 #![tactic(auto)]
 
 pub mod laws;

@@ -1,17 +1,16 @@
-//! The steps of a checkpoint round, each of one device call.
+//! Which device call of a checkpoint round is due.
 
-/// How far a checkpoint round has come: which call of the device is due. Each is one device call.
+/// How far a checkpoint round has come, by its due device call.
 /// Source: fs/jbd2/checkpoint.c by behaviour; the order is this project's own.
 #[derive(Clone, Copy, Debug, PartialEq, Eq)]
 pub enum Round {
-    /// No round is under way.
+    /// No round.
     Idle,
-    /// The round's copies are written home, by transaction and then block: those before this block of this transaction
-    /// (counted from 0 since the opening) are written. The next one is to be written or, where none is left, home is to be
-    /// flushed.
+    /// Copies go home, by transaction and then block. Those before this block of this transaction (counted from 0 since
+    /// the opening) are written. Due: the next copy or, after the last, the flush of home.
     Copies { transaction: u64, block: u64 },
-    /// The copies are durable at home. The superblock is to be written with the place behind the round's transactions.
+    /// The copies are durable at home. Due: the superblock with the tail after the round's transactions.
     TailWrite,
-    /// That write of the superblock is to be flushed.
+    /// Due: the flush of that write.
     TailFlush,
 }

@@ -1,20 +1,20 @@
-//! The steps of a commit, each of one device call.
+//! Which device call of a commit is due.
 
-/// How far the commit of a transaction has come: which call of the device is due. Each is one device call.
+/// How far the commit of a transaction has come, by its due device call.
 /// Source: journalling.rst and fs/jbd2/commit.c by behaviour; the order is this project's own.
 #[derive(Clone, Copy, Debug, PartialEq, Eq)]
 pub enum Stage {
-    /// No transaction is being committed.
+    /// No commit.
     Idle,
-    /// The log is clean: the superblock is to be written with the place where the transaction begins.
+    /// The log is clean. Due: the superblock that names the transaction's place.
     SuperblockWrite,
-    /// That write of the superblock is to be flushed.
+    /// Due: the flush of that write.
     SuperblockFlush,
-    /// So many log blocks of the transaction are written. The next one is to be written or, where the commit block
-    /// alone is left, the blocks are to be flushed.
+    /// So many log blocks of the transaction are written. Due: the next one or, before the commit block, their
+    /// flush.
     Blocks(u64),
-    /// All but the commit block is durable. It is to be written.
+    /// All other blocks are durable. Due: the commit block.
     CommitWrite,
-    /// The commit block is to be flushed.
+    /// Due: its flush.
     CommitFlush,
 }

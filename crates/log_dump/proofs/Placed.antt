@@ -40,7 +40,7 @@ placed-append s k (x ∷ xs) ys =
 pub placed-one : (s : Super) (k : ℕ) (x : List ℕ) → placed_lines s k (x ∷ []) ≡ ended (placed_line (place_from (ring_of s) s.s_start k) x)
 placed-one s k x = append-nil (ended (placed_line (place_from (ring_of s) s.s_start k) x))
 
--- one more number
+-- one more number is listed last
 pub numbers-more : (numbers : List ℕ) (i number : ℕ) → i < length numbers → number ≡ get_or numbers i number →
     join_with_byte comma (map decimal (take (i + 1) numbers)) ≡ join_with_byte comma (map decimal (take i numbers)) ++ listed i number
 numbers-more numbers i number below is =
@@ -50,14 +50,14 @@ numbers-more numbers i number below is =
     ∙ ap (join_with_byte comma) (map-append decimal (take i numbers) (number ∷ []))
     ∙ join-push i (map decimal (take i numbers)) (decimal number) size
 
--- one more line
+-- one more line comes last
 pub placed-push : (s : Super) (k : ℕ) (xs : List (List ℕ)) (x : List ℕ) (place : ℕ) → place ≡ place_from (ring_of s) s.s_start (k + length xs) →
     placed_lines s k (xs ++ x ∷ []) ≡ placed_lines s k xs ++ ended (placed_line place x)
 placed-push s k xs x place is =
     placed-append s k xs (x ∷ [])
     ∙ ap (λ (text : List ℕ). placed_lines s k xs ++ text) (placed-one s (k + length xs) x ∙ ap (λ (p : ℕ). ended (placed_line p x)) (sym is))
 
--- one more copy
+-- one more copy adds its line
 pub copies-more : (s : Super) (k sequence count i : ℕ) (tags : List Tag) (tag : Tag) (place : ℕ) → i < length tags → tag ≡ get_or tags i tag →
     place ≡ place_from (ring_of s) s.s_start (k + 1 + i) →
     placed_lines s k (copies_captions sequence count (take (i + 1) tags)) ≡ placed_lines s k (copies_captions sequence count (take i tags)) ++ ended (placed_line place (copy_caption sequence tag))

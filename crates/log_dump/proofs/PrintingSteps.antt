@@ -60,14 +60,14 @@ module _ (l : Layout) (count : ℕ) where
       ∙ ap₂ (λ (m n : ℕ). m + n) (text-lines sequence t are.0) (texts-lines (suc sequence) ts are.1)
       ∙ sym (length-append (text_blocks t) (texts_blocks ts))
 
--- the lines of pieces and one more
+-- one more piece adds its lines
 pieces-push : (sequence : ℕ) (ps : List Piece) (p : Piece) →
     flat_map (piece_captions sequence) (ps ++ p ∷ []) ≡ flat_map (piece_captions sequence) ps ++ piece_captions sequence p
 pieces-push sequence ps p =
     flat_map-append (piece_captions sequence) ps (p ∷ [])
     ∙ ap (λ (xs : List (List ℕ)). flat_map (piece_captions sequence) ps ++ xs) (append-nil (piece_captions sequence p))
 
--- the lines of texts and one more
+-- so does one more text
 texts-push : (sequence due : ℕ) (ts : List Text) (t : Text) → due ≡ sequence + length ts →
     texts_captions sequence (ts ++ t ∷ []) ≡ texts_captions sequence ts ++ text_captions due t
 texts-push sequence due [] t is = append-nil (text_captions sequence t) ∙ ap (λ (n : ℕ). text_captions n t) (omega arith)
@@ -92,7 +92,7 @@ pub record PrintedPieces (s : Super) (image : Image) (sequence : ℕ) (old new :
   pub place : position ≡ start + inside
   pub written : Appends old new (placed_lines s start (flat_map (piece_captions sequence) pieces))
 
--- at first none
+-- at first none were
 pub printed-none : (s : Super) (image : Image) (sequence : ℕ) (old : Option (List ℕ)) (start : ℕ) → PrintedPieces s image sequence old old start start
 printed-none s image sequence old start = record {
   pieces = [];
@@ -107,7 +107,7 @@ module _ (s : Super) (image : Image) (sequence : ℕ) (old mid : Option (List �
   here : drop so.inside (blocks_from s image start) ≡ blocks_from s image position
   here = from-behind s image start so.inside ∙ ap (blocks_from s image) (sym so.place)
 
-  -- as many lines as blocks
+  -- they have as many lines as blocks
   lines : so.inside ≡ length (flat_map (piece_captions sequence) so.pieces)
   lines = so.begun.front.size ∙ sym (pieces-lines (layout_of s) (every_block s) sequence so.pieces so.begun.well_formed)
 

@@ -11,11 +11,11 @@ appends-joins (Some a) (Some b) None first second one two = absurd two
 appends-joins (Some a) (Some b) (Some c) first second one two =
     two ∙ ap (λ (xs : List ℕ). xs ++ second) one ∙ append_assoc a first second
 
--- an equal text
+-- a text may be replaced by an equal one
 pub appends-same : (old new : Option (List ℕ)) (text other : List ℕ) → text ≡ other → Appends old new text → Appends old new other
 appends-same old new text other same is = subst (Appends old new) same is
 
--- no text
+-- an unchanged writer appends no text
 pub appends-nothing : (old : Option (List ℕ)) → Appends old old []
 appends-nothing None = tt
 appends-nothing (Some a) = sym (append-nil a)

@@ -66,8 +66,7 @@ pub record PrintsUpTo (damaged : Option ℕ) (shape : Shape) (image : Image) (ol
 abbrev pub IsContentRefusal : Shape → JournalError → Type 0
 IsContentRefusal shape e = IsOneOf super_refusals e ⊎ NamesDamage 1 shape.log_blocks e
 
--- Why a log is refused: the device failed; memory ran out, for a block larger than any log's, with nothing printed; or the content is
--- refused, with nothing printed if reads were correct.
+-- Why a log is refused. Unless the device failed, nothing is printed, if reads were correct.
 pub record DumpRefused (honest unwritten : Type 0) (old new : DeviceState) (e : JournalError) : Type 0 where
   pub device : e ≡ Device → new.faults ≡ one_more_fault old.faults
   pub no_fault : e ≢ Device → new.faults ≡ old.faults
@@ -79,7 +78,7 @@ abbrev pub IsDumpFault : (honest unwritten : Type 0) → DeviceState → DeviceS
 IsDumpFault honest unwritten old new (Refused e) = DumpRefused honest unwritten old new e
 IsDumpFault honest unwritten old new (Output e) = (new.faults ≡ old.faults) × (honest → HasDump (shape_of old) (reading old.disk))
 
--- why the superblock is not accepted: the device failed; memory ran out, for a block larger than any log's; or it is refused
+-- why the superblock is not accepted; memory runs out only for a block larger than any log's
 abbrev pub IsLogRefused : (honest : Type 0) → DeviceState → DeviceState → JournalError → Type 0
 IsLogRefused honest old new e =
     IsDeviceFailure old new e

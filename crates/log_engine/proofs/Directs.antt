@@ -23,7 +23,7 @@ use Rattle.log_engine.specs.Direct.DirectWriteRefused.{WriteFailed}
 use Rattle.log_engine.specs.Engine.{EngineValue}
 use Rattle.block_device.proofs.OneCall.{each-one}
 
--- a successful direct call, on a device whose shape stays
+-- a successful direct call is the machine's, on a device whose shape stays
 pub directs-here : (e : Engine) (shape : Shape) (call : Call) (disk after : Disk) → shape ≡ e.shape → e.aborted ≡ false → DirectCall e call →
     after ≡ after_success call disk → DirectSteps e disk call (record e { shape = shape }) after
 directs-here e shape call disk after same running due done = record {
@@ -33,7 +33,7 @@ directs-here e shape call disk after same running due done = record {
   disk_is = done;
 }
 
--- and a failed one
+-- so is a failed one
 pub direct-faults-here : (e : Engine) (shape : Shape) (call : Call) (disk after : Disk) → shape ≡ e.shape → e.aborted ≡ false → DirectCall e call →
     IsAfterFault call disk after → DirectFaults e disk call (record e { shape = shape; aborted = true }) after
 direct-faults-here e shape call disk after same running due fault = record {
@@ -56,7 +56,7 @@ fault-opens old new disk after call sound fault =
     (subst (λ (e : Engine). Sound e after) fault.engine (direct-fault-sound old new disk after call sound fault))
 
 module _ (e : Engine) (b : ℕ) (v : List ℕ) where
-  -- a sound engine between two calls
+  -- the unchanged disk is a moment of a direct write
   pub during-write : (disk : Disk) → Sound e disk → IsDuringDirectWrite e b v disk disk
   during-write disk sound = record { home = record { adds = λ ts are. adds-none _ disk disk (λ c. refl) }; opens = images-open e disk sound }
 

@@ -29,7 +29,7 @@ use Rattle.block_device.specs.Call.{IsOneMoment}
 use Rattle.log_engine.specs.Engine.{IsDuringRound, RoundDid}
 use Rattle.block_device.proofs.OneCall.{each-one}
 
--- a sound engine between two steps
+-- the unchanged disk is a moment of the step
 pub during-round : (e : Engine) (disk : Disk) → Sound e disk → IsDuringRound e disk disk
 during-round e disk sound = record { home = keeps-copies e disk disk (record { same = λ b. refl }); opens = images-open e disk sound }
 

@@ -43,11 +43,11 @@ idle-at e (Blocks k) none = absurd (none-some _ (sym none))
 idle-at e CommitWrite none = absurd (none-some _ (sym none))
 idle-at e CommitFlush none = absurd (none-some _ (sym none))
 
--- a sound engine between two steps
+-- the unchanged disk is a moment of the step
 pub during-now : (e : Engine) (disk : Disk) → Sound e disk → IsDuringCommit e disk disk
 during-now e disk sound = record { home = record { same = λ b. refl }; opens = images-open e disk sound }
 
--- wider bounds
+-- what opens within bounds opens within wider ones
 opens-wider : (shape : Shape) (accepted : List Batch) (low lower high : ℕ) (disk : Disk) → lower ≤ low → OpensBetween shape accepted low high disk →
     OpensBetween shape accepted lower high disk
 opens-wider shape accepted low lower high disk less opens = record {
@@ -101,7 +101,7 @@ step-did NoProgress old new disk after progress step = absurd progress
 step-did Step old new disk after progress step = (step, progress)
 step-did (Done tid) old new disk after progress step = (step, progress.0, progress.1)
 
--- a fault on a device whose shape stays
+-- a failed step is the machine's, on a device whose shape stays
 pub faults-here : (e : Engine) (shape : Shape) (call : Call) (disk after : Disk) → shape ≡ e.shape → e.aborted ≡ false → call_due e ≡ Some call →
     IsAfterFault call disk after → CommitFaults e disk (record e { shape = shape; aborted = true }) after
 faults-here e shape call disk after same running due fault = record {
@@ -112,7 +112,7 @@ faults-here e shape call disk after same running due fault = record {
   disk_is = fault;
 }
 
--- a step on a device whose shape stays
+-- so is a successful one
 pub steps-here : (e new : Engine) (call : Call) (disk after : Disk) → e.aborted ≡ false → call_due e ≡ Some call → new ≡ stepped e →
     after ≡ after_success call disk → CommitSteps e disk new after
 steps-here e new call disk after running due engine is = record { running = running; call = call; due = due; engine = engine; disk_is = is }

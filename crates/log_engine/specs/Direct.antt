@@ -12,8 +12,7 @@ use Rattle.journal_world.specs.Engine.{Engine}
 use Rattle.journal_world.specs.Sound.{OpensBetween}
 use Rattle.log_engine.specs.Engine.{EngineValue, MayTouch}
 
--- why a direct write is refused: the device failed before, the block may not be touched, it is not left to home, or the device failed
--- in it
+-- why a direct write is refused
 pub data DirectWriteRefused {D : Type 0} (state : D → DeviceState) (old : EngineValue D) (b : ℕ) (v : List ℕ) (new : EngineValue D) : JournalError → Type 0 where
   WriteAborted : old.engine.aborted ≡ true → new ≡ old → DirectWriteRefused state old b v new Aborted
   WriteOutside : old.engine.aborted ≡ false → (MayTouch old.engine b → ⊥) → new ≡ old → DirectWriteRefused state old b v new BadBlock
@@ -22,7 +21,7 @@ pub data DirectWriteRefused {D : Type 0} (state : D → DeviceState) (old : Engi
   WriteFailed : DirectFaults old.engine (state old.device).disk (Write Home b v) new.engine (state new.device).disk →
       (state new.device).faults ≡ one_more_fault (state old.device).faults → DirectWriteRefused state old b v new Device
 
--- why a flush of home is refused: the device failed before, or in it
+-- why a flush of home is refused
 pub data DirectSyncRefused {D : Type 0} (state : D → DeviceState) (old new : EngineValue D) : JournalError → Type 0 where
   SyncAborted : old.engine.aborted ≡ true → new ≡ old → DirectSyncRefused state old new Aborted
   SyncFailed : DirectFaults old.engine (state old.device).disk (Flush Home) new.engine (state new.device).disk →
@@ -38,8 +37,7 @@ pub record IsDuringDirectWrite (e : Engine) (b : ℕ) (v : List ℕ) (old disk :
 abbrev pub NoAddition : Addition
 NoAddition b v = ⊥
 
--- a moment of the flush of home: home reads as before, no crash leaves anything new there, and each crash image opens as in a direct
--- write
+-- a moment of the flush of home: home reads as before, no crash leaves anything new there, and each crash image opens likewise
 pub record IsDuringDirectSync (e : Engine) (old disk : Disk) : Type 0 where
   pub home : HomeAddsOnly NoAddition old disk
   pub opens : OpensBetween e.shape e.accepted e.committed (length e.accepted) disk

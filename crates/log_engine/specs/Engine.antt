@@ -23,7 +23,7 @@ pub record EngineValue (D : Type 0) : Type 0 where
 abbrev pub HasEffects : Engine → EffectsValue → Type 0
 HasEffects e table = (b : ℕ) → effect_on table b ≡ last_effect e.accepted b None
 
--- why a batch is refused for which the ring has room: the device failed before, or memory ran out
+-- why a batch is refused for which the ring has room
 pub data AcceptRefused (e : Engine) : JournalError → Type 0 where
   AfterFailure : e.aborted ≡ true → AcceptRefused e Aborted
   MemoryIsShort : e.aborted ≡ false → AcceptRefused e Memory
@@ -34,7 +34,7 @@ StepDid NoProgress old disk new after = (old.stage ≡ Idle) × (old.aborted ≡
 StepDid Step old disk new after = CommitSteps old disk new after × (new.stage ≢ Idle)
 StepDid (Done tid) old disk new after = CommitSteps old disk new after × (new.stage ≡ Idle) × (tid ≡ old.first + old.committed)
 
--- why a commit step is refused: the device failed before, or in it
+-- why a commit step is refused
 pub data StepRefused (old : Engine) (before : DeviceState) (new : Engine) (after : DeviceState) : JournalError → Type 0 where
   WasAborted : old.aborted ≡ true → new ≡ old → Stays before after → after.faults ≡ before.faults → StepRefused old before new after Aborted
   DeviceFailed : CommitFaults old before.disk new after.disk → after.faults ≡ one_more_fault before.faults → StepRefused old before new after Device
@@ -46,7 +46,7 @@ RoundDid NoProgress old disk new after =
 RoundDid Step old disk new after = RoundSteps old disk new after × (new.round ≢ NoRound)
 RoundDid (Done tid) old disk new after = RoundSteps old disk new after × (new.round ≡ NoRound) × (tid + 1 ≡ new.first + new.released)
 
--- why a checkpoint step is refused: the device failed before, or in it
+-- why a checkpoint step is refused
 pub data RoundRefused (old : Engine) (before : DeviceState) (new : Engine) (after : DeviceState) : JournalError → Type 0 where
   RoundAborted : old.aborted ≡ true → new ≡ old → Stays before after → after.faults ≡ before.faults → RoundRefused old before new after Aborted
   RoundFailed : RoundFaults old before.disk new after.disk → after.faults ≡ one_more_fault before.faults → RoundRefused old before new after Device
@@ -55,7 +55,7 @@ pub data RoundRefused (old : Engine) (before : DeviceState) (new : Engine) (afte
 abbrev pub MayTouch : Engine → ℕ → Type 0
 MayTouch e b = IsAllowedBlock e.layout e.shape.home_blocks b
 
--- why a read is refused: the device failed before, the block may not be touched, or no copy is pending and the device failed in it
+-- why a read is refused; the device fails only if no copy is pending
 pub data ReadRefused {D : Type 0} (state : D → DeviceState) (old : EngineValue D) (b : ℕ) (new : EngineValue D) : JournalError → Type 0 where
   ReadAborted : old.engine.aborted ≡ true → new ≡ old → ReadRefused state old b new Aborted
   ReadOutside : old.engine.aborted ≡ false → (MayTouch old.engine b → ⊥) → new ≡ old → ReadRefused state old b new BadBlock

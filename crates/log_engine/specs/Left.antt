@@ -20,8 +20,8 @@ calls_from blocks CommitFlush = 1
 abbrev pub commit_calls : Engine → ℕ
 commit_calls e = calls_from (length (due_blocks e)) e.stage
 
--- at most, for a round that begins with so many transactions released: all copies of the others committed, a flush of home, the
--- superblock and its flush; none if all are released
+-- at most, for a round that begins with so many transactions released: a copy of each home block for each committed transaction, a
+-- flush of home, the superblock and its flush; none if all are released
 abbrev pub whole_round : Engine → ℕ → ℕ
 whole_round e released = if nat_lt released e.committed then e.committed * e.shape.home_blocks + 3 else 0
 

@@ -1,4 +1,4 @@
-//! Direct writes: bytes go straight home, past the log, to a block that no transaction holds; a flush of home makes them durable.
+//! Direct writes: bytes go straight home, past the log, to a block that the transactions leave to home; a flush of home makes them durable.
 //! Source: this project's own, by what journal.rst says of revokes (a block that is no longer journalled may be written in place).
 ghost use Rattle.std.specs.Prelude.{◌≡◌, false, length, IfErr, OnErr, OnOk, Some};
 ghost use Rattle.journal_model.specs.declared.number.Area.TheVariants.{Home};
@@ -19,15 +19,14 @@ use journal_model::{Area, BlockNo, JournalError, Tid};
 use log_ledger::Due;
 
 impl<D: Device> Engine<D> {
-    /// Writes one block directly home, past the log, if it is left to home. Then the transaction being committed has no entry of it. Of
-    /// the transactions committed since the opening, released ones too, the last entry is a revoke, or there is none. The bytes are
-    /// durable after a `sync_direct` that answers Ok. It takes no memory, and one look-up decides, however many transactions there
-    /// were.
+    /// Writes one block directly home, past the log, if it is left to home: the transaction being committed has no entry of it, and its
+    /// last entry in those committed since the opening, released ones too, is a revoke or none. It is durable after a `sync_direct`
+    /// that answers Ok. It takes no memory, and one look-up decides, however many transactions there were.
     ///
     /// # Errors
     ///
-    /// `Aborted` after an earlier device failure, `BadBlock` as in `read`, `NotDirect` if the block is not left to home: nothing
-    /// changes. `Device`: the device failed, and the journal is aborted. Home reads, and a crash leaves, the old bytes or these.
+    /// `Aborted`; `BadBlock` as in `read`; `NotDirect` (the block is not left to home): nothing changes. `Device`: home reads, and a
+    /// crash leaves, the old bytes or these.
     /// Source: this project's own, by what journal.rst says of revokes.
     pub fn write_direct(&mut self, block: BlockNo, bytes: &[u8]) -> Result<(), JournalError>
         requires { length bytes.now ≡ (D.state self.old.device).shape.block_size }
@@ -52,12 +51,11 @@ impl<D: Device> Engine<D> {
         self.call_directly(Due::Write(Area::Home, block.0), bytes)
     }
 
-    /// Flushes home: earlier direct writes are durable. It takes no memory.
+    /// Flushes home, which makes earlier direct writes durable. It takes no memory.
     ///
     /// # Errors
     ///
-    /// `Aborted` after an earlier device failure: nothing changes. `Device`: the device failed, the journal is aborted, and nothing
-    /// became durable.
+    /// `Aborted`. `Device`: nothing became durable.
     pub fn sync_direct(&mut self) -> Result<(), JournalError>
         ensures ok { OnOk result (DirectSteps self.old.engine (D.state self.old.device).disk (Flush Home) self.new.engine (D.state self.new.device).disk) }
         ensures err { IfErr result (λ e. DirectSyncRefused D.state self.old self.new e) }
@@ -71,7 +69,7 @@ impl<D: Device> Engine<D> {
         }
     }
 
-    /// Makes a device call past the log; if it fails, the journal is aborted.
+    /// Makes a device call past the log; a failure aborts the journal.
     fn call_directly(&mut self, due: Due, bytes: &[u8]) -> Result<(), JournalError>
         requires running { self.old.engine.aborted ≡ false }
         requires direct { (call : Call) × (call_of due bytes.now ≡ Some call) × DirectCall self.old.engine call }

@@ -34,6 +34,9 @@ use std::alloc::Global;
 use std::marker::Model;
 
 /// The transactions of an opened log, and its device.
+///
+/// In the errors of its calls, `Aborted` means that the device failed in an earlier call, and nothing changes. `Device` means that it
+/// failed in this one, and the journal is then aborted.
 #[derive(Drop)]
 pub struct Engine<D: Device> {
     pub(crate) device: D,
@@ -166,8 +169,8 @@ impl<D: Device> Engine<D> {
         self.ledger.room_for(copies, revokes)
     }
 
-    /// Reserves all memory for accepting a batch of at most so many entries, even while another is being committed. The next `accept`
-    /// then requests none. It calls no device, and leaves the engine's value, whatever it answers.
+    /// Reserves all memory for accepting a batch of at most so many entries, even while another is being committed; the next `accept`
+    /// requests none. The engine's value stays, whatever the answer.
     ///
     /// # Errors
     ///
@@ -182,13 +185,13 @@ impl<D: Device> Engine<D> {
         Ok(())
     }
 
-    /// Takes the entries of the next transaction, which is then to be committed. No commit may be under way; the batch has the next
-    /// number, and its copies and revokes are of different allowed blocks. They need `blocks` log blocks, which the ring has free
-    /// (`room_for`). All memory of the commit is taken here, so a commit takes time in proportion to its log blocks and entries.
+    /// Takes the entries of the next transaction, which is then to be committed. No commit may be under way, the batch has the next
+    /// number, and its entries are of different allowed blocks. They need `blocks` log blocks, which the ring has free (`room_for`). It
+    /// takes all memory of the commit, whose time is then in proportion to its log blocks and entries.
     ///
     /// # Errors
     ///
-    /// The batch comes back, and nothing changes. `Aborted` after a device failure; `Memory`.
+    /// The batch comes back, and nothing changes. `Aborted`, `Memory`.
     pub fn accept(&mut self, batch: Batch, blocks: u64) -> Result<(), (Batch, JournalError)>
         requires may { MayHandOver self.old.engine batch }
         requires room { HasRoom self.old.engine batch }
@@ -217,7 +220,7 @@ impl<D: Device> Engine<D> {
     ///
     /// # Errors
     ///
-    /// `Aborted` after an earlier device failure. `Device`: the device failed, and the journal is aborted.
+    /// `Aborted`, `Device`.
     pub fn commit_step(&mut self) -> Result<Progress, JournalError>
         ensures ok { IfOk result (λ p. StepDid p self.old.engine (D.state self.old.device).disk self.new.engine (D.state self.new.device).disk) }
         ensures err { IfErr result (λ e. StepRefused self.old.engine (D.state self.old.device) self.new.engine (D.state self.new.device) e) }
@@ -239,13 +242,12 @@ impl<D: Device> Engine<D> {
         Ok(self.ledger.advance())
     }
 
-    /// Makes the checkpoint round's next device call, if one is due. A round begins if a committed transaction is not released, and
-    /// releases all that are committed at that time; commit steps may come between its own. It takes no memory. If it answers `Idle`,
-    /// it made no call.
+    /// Makes the checkpoint round's next device call, if one is due; none if it answers `Idle`. A round begins if a committed
+    /// transaction is not released, and releases all that are committed then; commit steps may come in between. It takes no memory.
     ///
     /// # Errors
     ///
-    /// `Aborted` after an earlier device failure. `Device`: the device failed, and the journal is aborted.
+    /// `Aborted`, `Device`.
     /// Source: fs/jbd2/checkpoint.c by behaviour.
     pub fn checkpoint_step(&mut self) -> Result<Progress, JournalError>
         ensures ok { IfOk result (λ p. RoundDid p self.old.engine (D.state self.old.device).disk self.new.engine (D.state self.new.device).disk) }
@@ -269,14 +271,12 @@ impl<D: Device> Engine<D> {
         Ok(self.ledger.advance_round())
     }
 
-    /// Reads one block: its newest committed copy, else what home reads. A block with a pending copy needs no device call; any other
-    /// needs one.
+    /// Reads one block: its newest committed copy, else what home reads. A pending copy needs no device call.
     ///
     /// # Errors
     ///
-    /// `Aborted` after an earlier device failure; `BadBlock` if home has no such block, or its number is not below 2^32 (2^48 in a log
-    /// with 64-bit numbers): nothing changes. `Device`: the device failed, the journal is aborted, and the buffer's bytes are
-    /// unspecified.
+    /// `Aborted`, `BadBlock` (home has no such block, or its number is not below 2^32, in a log with 64-bit numbers 2^48): nothing
+    /// changes. `Device`: the buffer's bytes are unspecified.
     pub fn read(&mut self, block: BlockNo, into: &mut [u8]) -> Result<(), JournalError>
         requires { length into.old ≡ (D.state self.old.device).shape.block_size }
         ensures may { OnOk result ((self.old.engine.aborted ≡ false) × MayTouch self.old.engine block) }

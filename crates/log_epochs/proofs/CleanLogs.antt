@@ -1,4 +1,4 @@
--- The superblock of the clean log that an opening or a close leaves, and the log that is opened then.
+-- The clean superblock that an opening or a close leaves, and the opened log.
 use Rattle.std.proofs.Common.{refl, sym, ◌∙◌, ap₂, subst, arith, inl, inr, ⊎_elim}
 use Rattle.std.specs.Prelude.{◌≡◌, ◌≢◌, ℕ, ◌+◌, ◌-◌, ◌<◌, ◌≤◌, ◌==◌, true, false, List, length, None}
 use Rattle.std.proofs.lemmas.Bool.{cases_lt}
@@ -26,7 +26,7 @@ ring-tail block sequence start long =
     (before_tail 0x14 block sequence start (omega arith) long)
     (before_tail 0x10 block sequence start (omega arith) long)
 
--- what is known of the superblock that says that the log is clean
+-- what a superblock with the clean tail satisfies
 pub record IsCleanTail (shape : Shape) (superblock tail : List ℕ) (next : ℕ) : Type 0 where
   pub tail_is : tail ≡ with_tail superblock next 0
   pub accepted : super_refusal shape tail ≡ None
@@ -36,7 +36,7 @@ pub record IsCleanTail (shape : Shape) (superblock tail : List ℕ) (next : ℕ)
   pub layout : layout_of (super_in tail) ≡ layout_of (super_in superblock)
   pub ring : ring_of (super_in tail) ≡ ring_of (super_in superblock)
 
--- that superblock
+-- the clean tail makes such a superblock
 pub clean-tail : (shape : Shape) (superblock : List ℕ) (next : ℕ) → super_refusal shape superblock ≡ None → length superblock ≡ shape.block_size →
     next ≤ greatest_number + 1 → IsCleanTail shape superblock (with_tail superblock next 0) next
 clean-tail shape superblock next accepted size small =
@@ -51,7 +51,7 @@ clean-tail shape superblock next accepted size small =
       ring = ring-tail superblock next 0 (omega arith);
     }
 
--- a ring block of an image where nothing is ahead of a limit is numbered below the one behind it
+-- with nothing ahead of a limit, each ring block is below the next number
 behind-limit : (image : Image) (limit n : ℕ) (v : List ℕ) → NothingAhead image limit → (ring_of (super_of image)).first ≤ n →
     n < (ring_of (super_of image)).first + (ring_of (super_of image)).blocks → v ≡ image Log n → IsBehind (limit + 1) v
 behind-limit image limit n v none low high is = record {
@@ -68,7 +68,7 @@ behind-limit image limit n v none low high is = record {
       ];
 }
 
--- a log whose block 0 is durable and whose ring is as the image, in which nothing is ahead, is opened
+-- a log with a durable block 0 and nothing ahead in its ring is opened
 pub opened-log : (shape : Shape) (image : Image) (disk : Disk) (superblock : List ℕ) (limit : ℕ) →
     NamesNothing shape (layout_of (super_in superblock)) (ring_of (super_in superblock)) (limit + 1) superblock → limit < greatest_number →
     disk Log 0 ≡ durable_cell superblock → ((n : ℕ) (v : List ℕ) → n ≢ 0 → IsOneOf (held (disk Log n)) v → v ≡ image Log n) →
@@ -89,11 +89,11 @@ opened-log shape image disk superblock limit named small durable ring_is same no
 pub cleaned-clean : (block : List ℕ) (next : ℕ) → (super_in block).s_start ≡ 0 → cleaned block next ≡ block
 cleaned-clean block next clean = let test : ((super_in block).s_start == 0) ≡ true = grind (arith, nat_tests) in rw test
 
--- any other gets a new tail
+-- block 0 of another log gets a new tail
 pub cleaned-started : (block : List ℕ) (next : ℕ) → (super_in block).s_start ≢ 0 → cleaned block next ≡ with_tail block next 0
 cleaned-started block next started = let test : ((super_in block).s_start == 0) ≡ false = grind (arith, nat_tests) in rw test
 
--- what was found of a clean image
+-- the texts and the limit found of a clean image
 pub found-clean : (shape : Shape) (image : Image) (texts : List Text) (limit : ℕ) → HasTexts shape image texts limit → IsClean shape image →
     limit ≡ (super_of image).s_sequence
 found-clean shape image texts limit (NoTexts clean) also = refl
@@ -116,7 +116,7 @@ opened-clean shape found disk is clean durable =
     (λ n v other one. ⊎_elim (λ same. same) (λ none. absurd none) (subst (λ c. IsOneOf (held c) v) (durable n) one))
     refl is.none_ahead)
 
--- so is one whose new superblock was flushed
+-- a log whose new superblock was flushed is opened
 pub opened-replayed : (shape : Shape) (found : Found) (disk : Disk) → IsFound shape found → HasChain shape found.image found.texts →
     disk Log 0 ≡ durable_cell (clean_superblock found) → ((n : ℕ) (v : List ℕ) → n ≢ 0 → IsOneOf (held (disk Log n)) v → v ≡ found.image Log n) →
     IsOpenedLog shape disk (cleaned (found.image Log 0) (next_of found)) (next_of found)

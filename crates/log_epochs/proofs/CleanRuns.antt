@@ -1,4 +1,4 @@
--- An opening of a clean log that was found good comes to its end: the moves are there.
+-- An opening of a clean, good log can run to its end.
 use Rattle.std.proofs.Common.{refl}
 use Rattle.std.specs.Prelude.{◌≡◌, [], ◌∷◌, Some}
 use Rattle.journal_model.specs.declared.number.Area.TheVariants.{Log}

@@ -1,4 +1,4 @@
--- What each image that a stop may leave keeps once a close has written the superblock of a clean log.
+-- What each crash image keeps once a close has written the clean superblock.
 use Rattle.std.proofs.Common.{refl, sym, ◌∙◌, ap, subst, arith, inl, inr, ⊎_elim}
 use Rattle.std.specs.Prelude.{◌≡◌, ℕ, ◌+◌, ◌<◌, ◌≤◌, ◌==◌, true, false, if◌then◌else◌, List, [], length, take, Some}
 use Rattle.std.proofs.lemmas.Bool.{cases_eq}
@@ -34,7 +34,7 @@ with_first image v Log n = if n == 0 then v else image Log n
 with_first image v Home b = image Home b
 
 module _ (e : Engine) (disk after_write : Disk) (image : Image) (sound : Sound e disk) (may : MayClose e) (write : IsWrite disk after_write 0 (closed_superblock e)) (leaves : Leaves after_write image) where
-  -- the image that the disk might have left before
+  -- the image with the earlier superblock
   abbrev earlier : Image
   earlier = with_first image (disk Log 0).reads
 
@@ -58,11 +58,11 @@ module _ (e : Engine) (disk after_write : Disk) (image : Image) (sound : Sound e
           ]
       each Home b = subst (λ (c : Cell). IsOneOf (held c) (image Home b)) (write.home.same b) (leaves.each Home b)
 
-  -- all is committed
+  -- all accepted transactions are committed
   all-committed : length e.accepted ≡ e.committed
   all-committed = (subst (StageAgrees e) may.idle sound.plain.stage).0
 
-  -- and released
+  -- all committed transactions are released
   all-released : e.start ≡ e.tail
   all-released = sound.plain.start ∙ ap (position e) (sym may.released) ∙ sym sound.plain.tail
 
@@ -110,11 +110,11 @@ module _ (e : Engine) (disk after_write : Disk) (image : Image) (sound : Sound e
       subst (λ (m : ℕ). image Home b ≡ bytes_of (content_of (last_effect b (take m ts))) (image Home b)) sum
       (bytes-left e disk earlier e.committed 0 ts b earlier-left home (omega arith) (omega arith) are)
 
-  -- so the image is clean
+  -- the image is clean
   closed-clean : image Log 0 ≡ closed_superblock e → IsClean e.shape image
   closed-clean is = let names = closed-names is in record { accepted = names.is_superblock.accepted; clean = names.clean }
 
-  -- and opens to all transactions
+  -- it opens to all transactions
   closed-opens : (ts : History) → image Log 0 ≡ closed_superblock e → AreBatchesOf ts e.accepted → Opens e.shape ts e.committed image
   closed-opens ts is are =
       let names = closed-names is in
@@ -130,7 +130,7 @@ module _ (e : Engine) (disk after_write : Disk) (image : Image) (sound : Sound e
     all = λ ts are. subst (λ (n : ℕ). Opens e.shape ts n image) (sym all-committed) (closed-opens ts is are);
   }
 
-  -- it keeps what is promised
+  -- it keeps the promise
   closed-kept : (opening : Disk) (directs : List (ℕ × List ℕ)) → HomeRight opening directs e disk → image Log 0 ≡ closed_superblock e →
       KeepsImage e.shape (running_epoch opening directs e) image
   unfolding with_first
@@ -152,7 +152,7 @@ module _ (e : Engine) (disk after_write : Disk) (image : Image) (sound : Sound e
         numbered = batches-numbered e.first ts e.accepted sound.plain.numbered are;
       }
 
--- where the superblock is the old one, the disk might have left the image before
+-- an image with the old superblock was a crash image before
 same-left : (disk new : Disk) (image : Image) (v : List ℕ) → IsWrite disk new 0 v → Leaves new image → IsOneOf (held (disk Log 0)) (image Log 0) →
     Leaves disk image
 same-left disk new image v write leaves first = record { each = each }
@@ -165,7 +165,7 @@ same-left disk new image v write leaves first = record { each = each }
         ]
     each Home b = subst (λ (c : Cell). IsOneOf (held c) (image Home b)) (write.home.same b) (leaves.each Home b)
 
--- a close that writes the superblock of a clean log, or fails in it, keeps what is promised
+-- a close keeps the promise when it writes the superblock, or fails in that
 pub close-keeps : (shape : Shape) (opening : Disk) (directs : List (ℕ × List ℕ)) (e : Engine) (disk new : Disk) → IsRunning shape opening directs e disk → MayClose e →
     IsWrite disk new 0 (closed_superblock e) → KeepsNow shape (Some (running_epoch opening directs e)) new
 close-keeps shape opening directs e disk new runs may write = λ image leaves.

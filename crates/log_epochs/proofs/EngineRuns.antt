@@ -1,4 +1,4 @@
--- What is known of the engine of each epoch, whatever moves follow one another: some transactions have its batches.
+-- Over any moves, some transactions have the batches of each epoch's engine.
 use Rattle.std.proofs.Common.{refl, sym, ap, subst, arith}
 use Rattle.std.specs.Prelude.{◌≡◌, ⊤, true, List, [], ◌∷◌, Option, Some, None}
 use Rattle.journal_model.specs.declared.entry.Batch.{Batch}
@@ -19,7 +19,7 @@ use Rattle.log_epochs.specs.UpgradeSteps.{UpgradeStage, pinning_in}
 use Rattle.log_epochs.specs.UpgradeSteps.UpgradeStage.{LogFlush as LogUnflushed, SuperblockWrite as Unwritten, SuperblockFlush as Unflushed, Done as Upgraded}
 use Rattle.log_epochs.specs.EngineWorld.UpgradeMove.{BeginUpgrade, UpgradeStep, UpgradeFault}
 
--- what is known of the engine of an epoch; and this where there is no epoch
+-- a fact of the epoch's engine, or another without an epoch
 abbrev pub OfEngine : Type 0 → (Engine → Type 0) → Option Epoch → Type 0
 OfEngine none P None = none
 OfEngine none P (Some epoch) = P epoch.engine
@@ -44,7 +44,7 @@ upgrade-engine none P Upgraded epoch image of = of
 pub now-engine : (none : Type 0) (P : Engine → Type 0) (epoch : Option Epoch) (now : Epoch) → epoch ≡ Some now → OfEngine none P epoch → P now.engine
 now-engine none P epoch now is of = subst (OfEngine none P) is of
 
--- it is known after a move where each step of the engine keeps it, and a fresh engine has it
+-- a fact of engines holds after each move, if each step and a fresh engine have it
 pub move-engine : (none : Type 0) (P : Engine → Type 0) (old new : World) (move : Move) →
     ((e new_engine : Engine) (disk after : Disk) (event : Event) → move ≡ Step event → Happens e disk event new_engine after → P e → P new_engine) →
     ((e : Engine) → e.accepted ≡ [] → P e) → Moves old move new → OfEngine none P old.epoch → OfEngine none P new.epoch
@@ -91,12 +91,12 @@ event-onward old new disk after (DirectWriteFault b v) happens = Going (failed-o
 event-onward old new disk after DirectSync happens = Going (same-on old new happens.engine)
 event-onward old new disk after DirectSyncFault happens = Going (failed-on old new happens.engine)
 
--- some transactions have the batches that an engine has
+-- some transactions have the engine's batches
 pub record HasHistory (e : Engine) : Type 0 where
   pub history : History
   pub batches : AreBatchesOf history e.accepted
 
--- they do after each step
+-- this holds after each step of the engine
 event-history : (old new : Engine) (disk after : Disk) (event : Event) → Happens old disk event new after → HasHistory old → HasHistory new
 event-history old new disk after event happens has = by (event-onward old new disk after event happens)
   where
@@ -106,11 +106,11 @@ event-history old new disk after event happens has = by (event-onward old new di
         record { history = more; batches = subst (λ (e : Engine). AreBatchesOf more e.accepted) (sym accepts.after) are }
     by (Going on) = record { history = has.history; batches = subst (AreBatchesOf has.history) (sym on.accepted) has.batches }
 
--- an engine that has no batches has none of these
+-- an engine without batches has the empty history
 fresh-history : (e : Engine) → e.accepted ≡ [] → HasHistory e
 fresh-history e none = record { history = []; batches = subst (AreBatchesOf []) (sym none) tt }
 
--- so they do after each move
+-- this holds after each move
 pub move-history : (old new : World) (move : Move) → Moves old move new → OfEngine ⊤ HasHistory old.epoch → OfEngine ⊤ HasHistory new.epoch
 move-history old new move moves history =
     move-engine ⊤ HasHistory old new move (λ e f disk after event is happens had. event-history e f disk after event happens had)
@@ -124,7 +124,7 @@ pub begin-history : (w : World) → Begins w → OfEngine ⊤ HasHistory w.epoch
 begin-history w (Unopened shut none first) = subst (OfEngine ⊤ HasHistory) (sym none) tt
 begin-history w (Made superblock next log running is first) = subst (OfEngine ⊤ HasHistory) (sym is) (fresh-history _ refl)
 
--- the device is the same after each move
+-- no move changes the shape of the device
 pub move-shape : (old new : World) (move : Move) → Moves old move new → new.shape ≡ old.shape
 move-shape old new (Step event) moves = ap (λ (w : World). w.shape) moves.after
 move-shape old new CloseStep moves = ap (λ (w : World). w.shape) moves.after

@@ -1,4 +1,4 @@
--- Each epoch begins on the disk with which the one before it ended, whatever moves follow one another.
+-- Each epoch begins on the disk that the one before ended with.
 use Rattle.std.proofs.Common.{refl, sym, subst}
 use Rattle.std.specs.Prelude.{ℕ, List, [], ◌∷◌, Option, Some, None}
 use Rattle.journal_model.specs.declared.number.Area.TheVariants.{Log}
@@ -20,7 +20,7 @@ use Rattle.log_epochs.specs.EngineWorld.UpgradeMove.{BeginUpgrade, UpgradeStep, 
 abbrev Follows : World → Type 0
 Follows w = Continues w.epoch w.ended
 
--- an epoch with another engine and more direct writes, or with a pin, began as before
+-- other engines, direct writes and pins leave the begin of an epoch
 engine-follows : (epoch : Epoch) (engine : Engine) (directs : List (ℕ × List ℕ)) (ended : List Ended) → Continues (Some epoch) ended →
     Continues (Some (record epoch { engine = engine; directs = directs })) ended
 engine-follows epoch engine directs [] follows = tt
@@ -77,7 +77,7 @@ pub run-follows : (old new : World) (moves : List Move) → Follows old → Lead
 run-follows old new [] follows same = subst Follows (sym same) follows
 run-follows old new (move ∷ moves) follows (mid, first, rest) = run-follows mid new moves (move-follows old mid move first follows) rest
 
--- where no epoch ended there is nothing to follow
+-- the first epoch follows nothing
 none-follows : (epoch : Option Epoch) → Continues epoch []
 none-follows None = tt
 none-follows (Some epoch) = tt

@@ -1,5 +1,5 @@
--- What each move adds to home: an engine newest committed copies and the bytes of direct writes, an opening newest live
--- copies, and no other move anything.
+-- What each move adds to home: an engine newest copies and direct writes, an opening newest live copies, others
+-- nothing.
 use Rattle.std.proofs.Common.{refl, sym, ap, subst, inl, inr, ⊎_elim}
 use Rattle.std.specs.Prelude.{◌≡◌, ℕ, List, Option}
 use Rattle.journal_model.specs.declared.number.Area.TheVariants.{Home}
@@ -30,7 +30,7 @@ use Rattle.log_epochs.specs.UpgradeSteps.UpgradeCall.{FlushLog as UpgradeFlush, 
 use Rattle.log_epochs.specs.EngineWorld.UpgradeMove.{BeginUpgrade, UpgradeStep, UpgradeFault}
 use Rattle.log_model.specs.Superblock.{widened}
 
--- a disk that is the old one adds nothing
+-- an unchanged disk adds nothing
 pub same-adds : (may : Addition) (old new : Disk) → new ≡ old → HomeAddsOnly may old new
 same-adds may old new same = adds-none may old new (λ b. ap (λ (d : Disk). d Home b) same)
 
@@ -38,7 +38,7 @@ same-adds may old new same = adds-none may old new (λ b. ap (λ (d : Disk). d H
 written-directly : (e : Engine) (b : ℕ) (v : List ℕ) (c : ℕ) (w : List ℕ) → Write Home b v ≡ Write Home c w → IsLeftToHome e c → IsAddedDirectly e b v c w
 written-directly e b v c w same left = let is = same-write b c v w same in (subst (IsLeftToHome e) is.0 left, is.0, is.1)
 
--- a step of the engine adds a direct write's bytes, or newest committed copies, as it may
+-- a step of the engine adds a direct write's bytes, or newest committed copies
 event-adds : (old new : Engine) (disk after : Disk) (event : Event) → Happens old disk event new after → HomeAddsOnly (StepMayAdd old event) disk after
 event-adds old new disk after (Accept b) happens = same-adds (StepMayAdd old (Accept b)) disk after happens.disk_is
 event-adds old new disk after (Read b v) happens = same-adds (StepMayAdd old (Read b v)) disk after happens.disk_is
@@ -105,18 +105,18 @@ upgrade-fault-adds may disk after block stage next call UpgradeFlush fault = sam
 upgrade-fault-adds may disk after block stage next call UpgradeWrite fault = adds-none may disk after (is_write-fault disk after 0 (widened block) fault).home.same
 upgrade-fault-adds may disk after block stage next call UpgradeEnd fault = same-adds may disk after (flush-undone disk after fault)
 
--- a stop leaves of each block what was held there
+-- a crash leaves of each block a value held there
 stop-adds : (disk : Disk) (left : Image) → Leaves disk left → HomeAddsOnly (λ b v. IsOneOf (held (disk Home b)) v) disk (disk_of left)
 stop-adds disk left leaves = record {
   reads = λ b. inr (leaves.each Home b);
   left = λ b v one. inl (⊎_elim (λ is. subst (λ (w : List ℕ). IsOneOf (held (disk Home b)) w) (sym is) (leaves.each Home b)) (λ none. absurd none) one);
 }
 
--- what is known of the disk of a world is known of the world that it makes
+-- what the made world adds, an equal world adds
 of-world : (may : Addition) (old : Disk) (new made : World) → new ≡ made → HomeAddsOnly may old made.disk → HomeAddsOnly may old new.disk
 of-world may old new made is adds = subst (λ (w : World). HomeAddsOnly may old w.disk) (sym is) adds
 
--- each move adds to home nothing but what it may
+-- each move adds to home only what it may
 pub move-home : (w : World) (move : Move) (new : World) → Moves w move new → HomeAddsOnly (MayAdd w move) w.disk new.disk
 move-home w (Step event) new moves =
     subst (λ (o : Option Epoch). HomeAddsOnly (EngineMayAdd o event) w.disk new.disk) (sym moves.now)

@@ -1,4 +1,4 @@
--- A step of the journal: front and engine agree after it, and the engine's world makes the same step, or none.
+-- Front and engine agree after each step of the journal, which is one step of the engine, or none.
 use Rattle.std.proofs.Common.{refl, sym, ap, subst, ◌∙◌, arith}
 use Rattle.std.specs.Prelude.{◌≡◌, ℕ, true, Option, Some, None, List}
 use Rattle.journal_model.specs.declared.number.Area.TheVariants.{Home}
@@ -20,30 +20,30 @@ use Rattle.log_epochs.specs.JournalPromise.MakesSteps.{NoStep, OneWrite, OneRevo
 use Rattle.log_epochs.specs.EngineSteps.{Event as EngineEvent, Happens as EngineHappens, with_directs as below_directs}
 use Rattle.log_epochs.specs.EngineSteps.Event.{Accept, CommitStep as EngineCommit, CommitFault as EngineCommitFault, CheckpointStep as EngineCheckpoint, CheckpointFault as EngineCheckpointFault, ReadFault as EngineReadFault, DirectWrite as EngineDirect, DirectWriteFault as EngineDirectFault, DirectSync as EngineSync, DirectSyncFault as EngineSyncFault}
 
--- front and engine agree, and with what was told
+-- front and engine agree, with these answers
 abbrev pub Agrees : Journal → List ℕ → Type 0
 Agrees j answered = FrontAgrees j.front j.engine answered
 
--- a step by which the engine goes on
+-- they agree after a step by which the engine goes on
 engine-agrees : (old new : Journal) (answered : List ℕ) → new.front ≡ old.front → GoesOn old.engine new.engine → new.engine.aborted ≡ old.engine.aborted →
     Agrees old answered → Agrees new answered
 engine-agrees old new answered same on unfailed agrees =
     subst (λ (f : Front). FrontAgrees f new.engine answered) (sym same) (goes-on old.front old.engine new.engine answered on unfailed agrees)
 
--- a step in which the device fails, of which the front is told
+-- they agree after a step that fails, if the front is notified
 failed-agrees : (old new : Journal) (answered : List ℕ) → new.front ≡ aborting old.front → GoesOn old.engine new.engine → new.engine.aborted ≡ true →
     Agrees old answered → Agrees new answered
 failed-agrees old new answered told on failed agrees =
     subst (λ (f : Front). FrontAgrees f new.engine answered) (sym told) (fails-on old.front old.engine new.engine answered on failed agrees)
 
--- one in which the device fails, of which the front is not told yet
+-- they agree after a step that fails, before the front is notified
 unmarked-agrees : (old new : Journal) (answered : List ℕ) → new.front ≡ old.front → GoesOn old.engine new.engine → new.engine.aborted ≡ true →
     Agrees old answered → Agrees new answered
 unmarked-agrees old new answered same on failed agrees =
     subst (λ (f : Front). FrontAgrees f new.engine answered) (sym same)
     (told-on old.front old.engine new.engine answered old.front.aborted on (λ yes. failed) agrees)
 
--- the front is told
+-- they agree when the front is notified
 marked-agrees : (old new : Journal) (answered : List ℕ) → new.front ≡ aborting old.front → new.engine ≡ old.engine → old.engine.aborted ≡ true →
     Agrees old answered → Agrees new answered
 marked-agrees old new answered told same failed agrees =
@@ -52,14 +52,14 @@ marked-agrees old new answered told same failed agrees =
     (told-on old.front old.engine old.engine answered true
     (record { shape = refl; layout = refl; ring = refl; first = refl; accepted = refl; committed = omega arith }) (λ yes. failed) agrees))
 
--- a direct call
+-- they agree after a direct call
 direct-agrees : (old new : Journal) (disk after : Disk) (answered : List ℕ) (call : Call) → new.front ≡ old.front →
     DirectSteps old.engine disk call new.engine after → Agrees old answered → Agrees new answered
 direct-agrees old new disk after answered call same step agrees =
     subst (λ (f : Front). FrontAgrees f new.engine answered) (sym same)
     (subst (λ (e : Engine). FrontAgrees old.front e answered) (sym step.engine) agrees)
 
--- one that fails
+-- they agree after a direct call that fails
 direct-fault-agrees : (old new : Journal) (disk after : Disk) (answered : List ℕ) (call : Call) → new.front ≡ aborting old.front →
     DirectFaults old.engine disk call new.engine after → Agrees old answered → Agrees new answered
 direct-fault-agrees old new disk after answered call told fault agrees =
@@ -106,7 +106,7 @@ event-agrees old new disk after answered DirectSync agrees happens = direct-agre
 event-agrees old new disk after answered DirectSyncFault agrees happens =
     direct-fault-agrees old new disk after answered (Flush Home) happens.front happens.engine agrees
 
--- the engine's step that a step of the journal is, if it is one
+-- the engine's step that a journal's step makes, if any
 abbrev pub below_event : Front → Event → Option EngineEvent
 below_event f (FrontStep event) = None
 below_event f Finish = None
@@ -123,7 +123,7 @@ below_event f (DirectWriteFault b v) = Some (EngineDirectFault b v)
 below_event f DirectSync = Some EngineSync
 below_event f DirectSyncFault = Some EngineSyncFault
 
--- what a step of the journal is to the engine: nothing, or this step of its own, with the same direct writes
+-- a journal's step is no step of the engine, or this one
 pub data IsBelow (own : Option EngineEvent) (old : Engine) (disk : Disk) (new : Engine) (after : Disk) (directs more : List (ℕ × List ℕ)) : Type 0 where
   Nothing : new ≡ old → after ≡ disk → more ≡ directs → IsBelow own old disk new after directs more
   Same : (event : EngineEvent) → own ≡ Some event → EngineHappens old disk event new after → more ≡ below_directs event directs →
@@ -148,7 +148,7 @@ event-below old new disk after (DirectWriteFault b v) directs happens = Same (En
 event-below old new disk after DirectSync directs happens = Same EngineSync refl happens.engine refl
 event-below old new disk after DirectSyncFault directs happens = Same EngineSyncFault refl happens.engine refl
 
--- what a step of the front alone does to the steps of handles
+-- a step of the front makes at most one step of a handle
 front-steps : (old new : Front) (event : FrontEvent) → FrontHappens old event new → MakesSteps (Step (FrontStep event)) old new
 front-steps old new (Reserve n) step = NoStep (ap (λ (f : Front). f.sealed) step.after) (ap (λ (f : Front). f.running.steps) step.after)
 front-steps old new (RefuseReserve n) step = NoStep (ap (λ (f : Front). f.sealed) step.after) (ap (λ (f : Front). f.running.steps) step.after)
@@ -166,12 +166,12 @@ front-steps old new (StopHandle h) step = NoStep (ap (λ (f : Front). f.sealed) 
 front-steps old new Lock step = NoStep (ap (λ (f : Front). f.sealed) step.after) (ap (λ (f : Front). f.running.steps) step.after)
 front-steps old new (Raise t) step = NoStep (ap (λ (f : Front). f.sealed) step.after) (ap (λ (f : Front). f.running.steps) step.after)
 
--- what is told of the device, or of a commit, makes none
+-- a notified front makes no step of a handle
 same-steps : (move : Move) (old new front : Front) → new ≡ front → front.sealed ≡ old.sealed → front.running.steps ≡ old.running.steps → MakesSteps move old new
 same-steps move old new front is sealed steps =
     NoStep (ap (λ (f : Front). f.sealed) is ∙ sealed) (ap (λ (f : Front). f.running.steps) is ∙ steps)
 
--- what each event does to them
+-- what each event does to the steps of handles
 pub event-steps : (old new : Journal) (disk after : Disk) (event : Event) → Happens old disk event new after → MakesSteps (Step event) old.front new.front
 event-steps old new disk after (FrontStep event) happens = front-steps old.front new.front event happens.front
 event-steps old new disk after Finish happens = same-steps (Step Finish) old.front new.front _ happens.front refl refl

@@ -1,4 +1,4 @@
--- A direct write of a journal that was synced stays, as it does in the engine's world.
+-- A journal's synced direct write stays, as in the engine's world.
 use Rattle.std.proofs.Common.{refl, sym, ap, subst, inl, inr}
 use Rattle.std.specs.Prelude.{◌≡◌, ⊤, ℕ, List, [], ◌∷◌, ◌++◌, Some, Contains}
 use Rattle.std.specs.List.{AllByRecursion}
@@ -26,7 +26,7 @@ use Rattle.log_epochs.proofs.Journals.IsStepBelow.{Unchanged, Stepped}
 use Rattle.log_epochs.proofs.Lives.{Holds, begin-holds, life-holds}
 use Rattle.log_epochs.proofs.Synced.{Carries, HandsAt, HandsOver, HoldsAs, on-held, on-safe, safe-reads, synced-held, written-safe}
 
--- a direct write of block b hands over what P says
+-- a direct write of block b hands over bytes that satisfy P
 abbrev JournalHands : (List ℕ → Type 0) → ℕ → Move → Type 0
 JournalHands P b (Step (DirectWrite c v)) = c ≡ b → P v
 JournalHands P b (Step (DirectWriteFault c v)) = c ≡ b → P v
@@ -46,7 +46,7 @@ JournalHands P b (Answer tid) = ⊤
 JournalHands P b (Below move) = ⊤
 
 module _ (P : List ℕ → Type 0) (b : ℕ) where
-  -- so does the engine's step that it is
+  -- so does the engine's step that it makes
   hands-below : (f : Front) (event : Event) (e : EngineEvent) → below_event f event ≡ Some e → JournalHands P b (Step event) → HandsAt P b e
   hands-below f (FrontStep event) e is hands = absurd (none-some e is)
   hands-below f (ReadBlock h block v) e is hands = absurd (none-some e is)
@@ -63,7 +63,7 @@ module _ (P : List ℕ → Type 0) (b : ℕ) where
   hands-below f DirectSync e is hands = subst (HandsAt P b) (same_Some _ e is) tt
   hands-below f DirectSyncFault e is hands = subst (HandsAt P b) (same_Some _ e is) tt
 
-  -- and it leaves the block alone
+  -- the engine's step leaves the block alone too
   alone-below : (f : Front) (event : Event) (e : EngineEvent) → below_event f event ≡ Some e → SealsWithout b f event → BelowLeavesAlone b (EngineStep e)
   alone-below f (FrontStep event) e is alone = absurd (none-some e is)
   alone-below f (ReadBlock h block v) e is alone = absurd (none-some e is)
@@ -83,7 +83,7 @@ module _ (P : List ℕ → Type 0) (b : ℕ) where
   alone-below f DirectSync e is alone = subst (λ (x : EngineEvent). BelowLeavesAlone b (EngineStep x)) (same_Some EngineSync e is) tt
   alone-below f DirectSyncFault e is alone = subst (λ (x : EngineEvent). BelowLeavesAlone b (EngineStep x)) (same_Some EngineSyncFault e is) tt
 
-  -- a move of the world below that is no step of the journal is none of those that do
+  -- an engine step that is no step of the journal leaves the block alone
   quiet-step : (event : EngineEvent) (old new : JournalWorld) → TellsAfterStep event old new → HandsAt P b event × BelowLeavesAlone b (EngineStep event)
   quiet-step (Read c v) old new tells = (tt, tt)
   quiet-step (Accept batch) old new tells = absurd tells
@@ -109,7 +109,7 @@ module _ (P : List ℕ → Type 0) (b : ℕ) where
   quiet (Upgrade move) old new tells = (tt, tt)
   quiet AnswerOk old new tells = (tt, tt)
 
-  -- a move that is no stop keeps the block safe
+  -- a move that is no crash keeps the block safe
   move-safe : (old new : JournalWorld) (move : Move) → JournalHands P b move → IsNoStop move → LeavesAlone b old.told.front move → Moves old move new →
       Carries P b old.below → Carries P b new.below
   move-safe old new (Step event) hands goes alone moves carries = by (step-below old new event moves)
@@ -123,7 +123,7 @@ module _ (P : List ℕ → Type 0) (b : ℕ) where
   move-safe old new (Below move) hands goes alone moves carries =
       let still = quiet move old new moves.tells in on-safe P b old.below new.below move still.0 goes still.1 moves.below carries
 
-  -- and any move does, where home holds nothing else of it
+  -- any move does, if home holds nothing else of the block
   move-held : (old new : JournalWorld) (move : Move) → JournalHands P b move → LeavesAlone b old.told.front move → Moves old move new →
       Carries P b old.below × HoldsAs P b old.below → Carries P b new.below × HoldsAs P b new.below
   move-held old new (Step event) hands alone moves has = by (step-below old new event moves)
@@ -137,7 +137,7 @@ module _ (P : List ℕ → Type 0) (b : ℕ) where
   move-held old new (Below move) hands alone moves has =
       let still = quiet move old new moves.tells in on-held P b old.below new.below move still.0 still.1 moves.below has
 
-  -- so do moves that follow one another
+  -- so does a sequence of moves
   run-safe : (old new : JournalWorld) (moves : List Move) → ((move : Move) → Contains moves move → JournalHands P b move) → AllByRecursion IsNoStop moves →
       (leads : Leads old moves new) → LeaveAlone b old moves new leads → Carries P b old.below → Carries P b new.below
   run-safe old new [] hands goes same alone carries = subst (λ (w : JournalWorld). Carries P b w.below) (sym same) carries
@@ -185,7 +185,7 @@ write-below old new b v moves = record {
   after = ap (λ (w : JournalWorld). w.below) moves.after;
 }
 
--- and the sync
+-- the engine makes the sync
 sync-below : (old new : JournalWorld) → Moves old (Step DirectSync) new → BelowMoves old.below (EngineStep EngineSync) new.below
 sync-below old new moves = record {
   running = moves.running;

@@ -1,4 +1,4 @@
--- The journal's law, from the engine's law and the front's steps alone.
+-- The journal's law, from the engine's law and the front's steps.
 use Rattle.std.proofs.Common.{refl, sym, ◌∙◌, ap, subst, arith, inl}
 use Rattle.std.specs.Prelude.{◌≡◌, ⊤, ℕ, suc, ◌≤◌, List, [], ◌∷◌, length, Option, Some, None}
 use Rattle.std.specs.List.{AllByRecursion}
@@ -44,7 +44,7 @@ use Rattle.log_epochs.specs.UpgradeSteps.{UpgradeStage, pinning_in}
 use Rattle.log_epochs.specs.UpgradeSteps.UpgradeStage.{LogFlush as LogUnflushed, SuperblockWrite as Unwritten, SuperblockFlush as Unflushed, Done as Upgraded}
 use Rattle.log_epochs.specs.EngineWorld.UpgradeMove.{BeginUpgrade, UpgradeStep, UpgradeFault}
 
--- what was told in an epoch agrees with its engine
+-- an epoch's front and answers agree with its engine
 abbrev pub AgreesIn : Epoch → Told → Type 0
 AgreesIn epoch told = FrontAgrees told.front epoch.engine told.answered
 
@@ -52,7 +52,7 @@ abbrev pub AgreesNow : Option Epoch → Told → Type 0
 AgreesNow None told = ⊤
 AgreesNow (Some epoch) told = AgreesIn epoch told
 
--- so it is with the epochs that ended
+-- so do those of the ended epochs
 abbrev pub AgreesPast : List Ended → List Told → Type 0
 AgreesPast [] [] = ⊤
 AgreesPast (x ∷ xs) (t ∷ ts) = AgreesIn x.epoch t × AgreesPast xs ts
@@ -80,7 +80,7 @@ upgrade-agrees Unwritten epoch image told agrees = agrees
 upgrade-agrees Unflushed epoch image told agrees = agrees
 upgrade-agrees Upgraded epoch image told agrees = agrees
 
--- what was told stays, and what agrees with the world below does so still
+-- an unchanged front and answers still agree with the world below
 same-holds : (old new : JournalWorld) (below : World) → new.below ≡ below → below.ended ≡ old.below.ended → TellsSame old new →
     AgreesNow below.epoch old.told → AgreesPast old.below.ended old.past → Holds new
 same-holds old new below is ended tells now past =
@@ -91,11 +91,11 @@ same-holds old new below is ended tells now past =
       subst (λ (w : World). AgreesPast w.ended new.past) (sym is) before,
     )
 
--- the epoch is the world's
+-- the current epoch agrees
 now-agrees : (epoch : Option Epoch) (now : Epoch) (told : Told) → epoch ≡ Some now → AgreesNow epoch told → AgreesIn now told
 now-agrees epoch now told is agrees = subst (λ (o : Option Epoch). AgreesNow o told) is agrees
 
--- a step of the journal
+-- a step of the journal keeps what holds
 step-holds : (old new : JournalWorld) (event : JournalEvent) → Steps old event new → Holds old → Holds new
 step-holds old new event step holds =
     let now : Agrees step.journal old.told.answered =
@@ -103,7 +103,7 @@ step-holds old new event step holds =
     (now-agrees old.below.epoch step.epoch old.told step.now holds.0) step.happens in
     subst Holds (sym step.after) (now, holds.1)
 
--- the past once an epoch ended
+-- an ended epoch joins those that agree
 ending-agrees : (epoch : Option Epoch) (after : Disk) (ended : List Ended) (told : Told) (past : List Told) → AgreesNow epoch told → AgreesPast ended past →
     AgreesPast (ending epoch after ended) (telling epoch told past)
 ending-agrees None after ended told past now before = before
@@ -117,7 +117,7 @@ fresh-told epoch told fresh =
     (subst (λ (f : Front). FrontAgrees f e []) (sym fresh.journal.front)
     (fresh-agrees told.front.capacity e.shape e.superblock e.first e fresh.journal.engine fresh.journal.capacity))
 
--- an opening answers Ok
+-- an opening that answers Ok keeps what holds
 answer-holds : (old new : JournalWorld) → BelowMoves old.below AnswerOk new.below → TellsAnew old new → Holds old → Holds new
 answer-holds old new answer tells holds =
     let past : AgreesPast (ending old.below.epoch old.below.disk old.below.ended) new.past =
@@ -127,14 +127,14 @@ answer-holds old new answer tells holds =
       subst (λ (w : World). AgreesPast w.ended new.past) (sym answer.after) past,
     )
 
--- a read of the engine
+-- a read of the engine keeps what holds
 read-holds : (old new : JournalWorld) (b : ℕ) (v : List ℕ) → BelowSteps old.below (Read b v) new.below → TellsSame old new → Holds old → Holds new
 read-holds old new b v step tells holds =
     let now : AgreesIn step.epoch old.told = now-agrees old.below.epoch step.epoch old.told step.now holds.0 in
     same-holds old new _ step.after refl tells
     (subst (λ (e : Engine). FrontAgrees old.told.front e old.told.answered) (sym step.happens.engine) now) holds.1
 
--- a step of the engine that is none of the journal's
+-- an engine step that is no step of the journal keeps what holds
 engine-holds : (old new : JournalWorld) (event : Event) → BelowSteps old.below event new.below → TellsAfterStep event old new → Holds old → Holds new
 engine-holds old new (Read b v) step tells holds = read-holds old new b v step tells holds
 engine-holds old new (Accept b) step tells holds = absurd tells
@@ -148,7 +148,7 @@ engine-holds old new (DirectWriteFault b v) step tells holds = absurd tells
 engine-holds old new DirectSync step tells holds = absurd tells
 engine-holds old new DirectSyncFault step tells holds = absurd tells
 
--- each other move of the world below
+-- each other move of the world below keeps what holds
 below-holds : (old new : JournalWorld) (move : BelowMove) → BelowMoves old.below move new.below → TellsAfter move old new → Holds old → Holds new
 below-holds old new (EngineStep event) moves tells holds = engine-holds old new event moves tells holds
 below-holds old new CloseStep moves tells holds = same-holds old new _ moves.after refl tells holds.0 holds.1
@@ -166,7 +166,7 @@ below-holds old new (Upgrade UpgradeStep) moves tells holds =
 below-holds old new (Upgrade UpgradeFault) moves tells holds = same-holds old new _ moves.after refl tells holds.0 holds.1
 below-holds old new AnswerOk moves tells holds = answer-holds old new moves tells holds
 
--- one more answer, where there is an epoch
+-- the current epoch agrees after one more answer
 told-agrees : (epoch : Option Epoch) (told : Told) (tid : ℕ) → tid ≤ told.front.mark → AgreesNow epoch told →
     AgreesNow epoch (record told { answered = tid ∷ told.answered })
 told-agrees None told tid marked agrees = tt
@@ -182,12 +182,12 @@ run-holds : (old new : JournalWorld) (moves : List Move) → Holds old → Leads
 run-holds old new [] holds same = subst Holds (sym same) holds
 run-holds old new (move ∷ moves) holds (mid, first, rest) = run-holds mid new moves (move-holds old mid move first holds) rest
 
--- a step of the journal is this step of the engine below, or nothing
+-- a step of the journal is this engine step below, or none
 pub data IsStepBelow (own : Option Event) (old new : World) : Type 0 where
   Unchanged : new ≡ old → IsStepBelow own old new
   Stepped : (event : Event) → own ≡ Some event → BelowSteps old event new → IsStepBelow own old new
 
--- a world whose engine, direct writes and disk are as they were is the same
+-- a world with the same engine, direct writes and disk is the same
 same-world : (w : World) (epoch : Epoch) (engine : Engine) (directs : List (ℕ × List ℕ)) (disk : Disk) → w.epoch ≡ Some epoch → engine ≡ epoch.engine →
     directs ≡ epoch.directs → disk ≡ w.disk → record w { disk = disk; epoch = Some (record epoch { engine = engine; directs = directs }) } ≡ w
 same-world w epoch engine directs disk now same_engine same_directs same_disk =
@@ -225,14 +225,14 @@ step-below old new event step =
           same_directs;
     })
 
--- moves of the world below that lead on from where others came to
+-- two sequences of moves below join
 leads-on : (old mid new : World) (moves others : List BelowMove) → BelowLeads old moves mid → BelowLeads mid others new →
     (all : List BelowMove) × BelowLeads old all new
 leads-on old mid new [] others first rest = (others, subst (λ (w : World). BelowLeads w others new) first rest)
 leads-on old mid new (move ∷ moves) others (next, one, more) rest =
     let on = leads-on next mid new moves others more rest in (move ∷ on.0, (next, one, on.1))
 
--- each move of the journal is some of them
+-- each move of the journal is some moves below
 move-below : (old new : JournalWorld) (move : Move) → Moves old move new → (moves : List BelowMove) × BelowLeads old.below moves new.below
 move-below old new (Step event) moves = below (step-below old new event moves)
   where
@@ -242,7 +242,7 @@ move-below old new (Step event) moves = below (step-below old new event moves)
 move-below old new (Answer tid) moves = ([], ap (λ (w : JournalWorld). w.below) moves.after)
 move-below old new (Below move) moves = (move ∷ [], (new.below, moves.below, refl))
 
--- so a run of the journal is one of the world below
+-- a run of the journal is one of the world below
 pub run-below : (old new : JournalWorld) (moves : List Move) → Leads old moves new → (all : List BelowMove) × BelowLeads old.below all new.below
 run-below old new [] same = ([], ap (λ (w : JournalWorld). w.below) same)
 run-below old new (move ∷ moves) (mid, first, rest) =
@@ -250,7 +250,7 @@ run-below old new (move ∷ moves) (mid, first, rest) =
     let more = run-below mid new moves rest in
     leads-on old.below mid.below new.below one.0 more.0 one.1 more.1
 
--- batches of numbered transactions are numbered as they are
+-- the batches of numbered transactions are numbered
 numbered-batches : (first : ℕ) (ts : History) (bs : List Batch) → AreNumbered first ts → AreBatchesOf ts bs → AreNumberedFrom first bs
 numbered-batches first [] [] numbered are = tt
 numbered-batches first [] (b ∷ bs) numbered are = absurd are
@@ -316,7 +316,7 @@ closed-kept shape (Some epoch) disk told Closed agrees keeps = λ image leaves.
 unchanged-adds : (may : Addition) (old new : World) → new ≡ old → HomeAddsOnly may old.disk new.disk
 unchanged-adds may old new same = subst (λ (w : World). HomeAddsOnly may old.disk w.disk) (sym same) (record { reads = λ b. inl refl; left = λ b v one. inl one })
 
--- so many transactions are committed as are sealed, at most
+-- at most as many transactions are committed as are sealed
 committed-within : (shape : Shape) (epoch : Epoch) (disk : Disk) (told : Told) → AgreesIn epoch told → BelowKeepsNow shape (Some epoch) disk →
     epoch.engine.committed ≤ length told.front.sealed
 committed-within shape epoch disk told agrees keeps =
@@ -366,7 +366,7 @@ event-home w new event holds promise step =
     (event-adds step.epoch w.told step.journal w.below.disk new.below.disk event agrees
     (committed-within w.below.shape step.epoch w.below.disk w.told agrees keeps) step.happens)
 
--- each move adds to home nothing but what it may, as the world below does
+-- each move adds to home only what it may
 move-home : (w new : JournalWorld) (move : Move) → Holds w → BelowKeepsPromise w.below → Moves w move new →
     HomeAddsOnly (MayAdd w move) w.below.disk new.below.disk
 move-home w new (Step event) holds promise moves = event-home w new event holds promise moves
@@ -374,16 +374,16 @@ move-home w new (Answer tid) holds promise moves =
     unchanged-adds (MayAdd w (Answer tid)) w.below new.below (ap (λ (x : JournalWorld). x.below) moves.after)
 move-home w new (Below move) holds promise moves = promise.home move new.below moves.below
 
--- what the front of the epoch of now keeps
+-- the front of the current epoch keeps `KeepsFront`
 front-kept : (epoch : Option Epoch) (told : Told) → AgreesNow epoch told → KeepsFrontNow epoch told
 front-kept None told agrees = tt
 front-kept (Some epoch) told agrees = agrees.keeps
 
--- what is told stays, and so do the steps of handles
+-- an unchanged front makes no step of a handle
 told-steps : (move : Move) (old new : JournalWorld) → TellsSame old new → MakesSteps move old.told.front new.told.front
 told-steps move old new tells = NoStep (ap (λ (t : Told). t.front.sealed) tells.told) (ap (λ (t : Told). t.front.running.steps) tells.told)
 
--- a step of the engine makes none of a handle
+-- an engine step makes no step of a handle
 engine-steps : (move : Move) (old new : JournalWorld) (event : Event) → TellsAfterStep event old new → MakesSteps move old.told.front new.told.front
 engine-steps move old new (Read b v) tells = told-steps move old new tells
 engine-steps move old new (Accept b) tells = absurd tells
@@ -397,7 +397,7 @@ engine-steps move old new (DirectWriteFault b v) tells = absurd tells
 engine-steps move old new DirectSync tells = absurd tells
 engine-steps move old new DirectSyncFault tells = absurd tells
 
--- nor does another move of the world below, of which an opening that answers Ok begins an epoch
+-- another move of the world below makes none, or begins an epoch
 below-steps : (old new : JournalWorld) (move : BelowMove) → TellsAfter move old new → MakesSteps (Below move) old.told.front new.told.front
 below-steps old new (EngineStep event) tells = engine-steps (Below (EngineStep event)) old new event tells
 below-steps old new CloseStep tells = told-steps (Below CloseStep) old new tells
@@ -420,7 +420,7 @@ move-steps old new (Answer tid) moves =
     NoStep (ap (λ (w : JournalWorld). w.told.front.sealed) moves.after) (ap (λ (w : JournalWorld). w.told.front.running.steps) moves.after)
 move-steps old new (Below move) moves = below-steps old new move moves.tells
 
--- at the begin
+-- front and engine agree at the begin
 begin-told : (epoch : Option Epoch) (told : Told) → TellsNothing epoch told → AgreesNow epoch told
 begin-told None told fresh = tt
 begin-told (Some epoch) told fresh = fresh-told epoch told fresh
@@ -433,7 +433,7 @@ begin-past w begins =
     none-ended below (Unopened shut none first) = first
     none-ended below (Made superblock next log running is first) = first
 
--- the journal's law, where the engine's holds
+-- the journal's law, if the engine's holds
 pub journal-promise : ((start end : World) (moves : List BelowMove) → BelowBegins start → BelowLeads start moves end → BelowKeepsPromise end) →
     (start end : JournalWorld) (moves : List Move) → Begins start → Leads start moves end → KeepsPromise end
 journal-promise law start end moves begins leads =

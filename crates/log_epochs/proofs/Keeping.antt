@@ -1,4 +1,4 @@
--- What images of a disk keep, they keep over a flush, a stop, and each moment of replay.
+-- What images keep over a flush, a crash, and each moment of a replay.
 use Rattle.std.proofs.Common.{refl, sym, ◌∙◌, ap, subst, arith, inl, inr}
 use Rattle.std.proofs.Math.Path.{fun_ext}
 use Rattle.std.specs.Prelude.{◌≡◌, ◌⊎◌, ⊤, ℕ, ◌+◌, ◌<◌, List, length, Option, Some, None, unwrap_or}
@@ -22,14 +22,14 @@ use Rattle.log_epochs.proofs.CleanLogs.{clean-tail}
 use Rattle.log_epochs.proofs.Homes.{held-read}
 use Rattle.log_epochs.proofs.Replaying.{IsReadyFor, SameLog, durable-one, kept-home, one-chain, opens-replaying, others-copying, same-chain}
 
--- two images of the same log are clean alike
+-- two images of one log are clean alike
 pub same-clean : (shape : Shape) (image other : Image) → SameLog image other → IsClean shape image → IsClean shape other
 same-clean shape image other same is = record {
   accepted = ap (super_refusal shape) (same 0) ∙ is.accepted;
   clean = ap (λ (block : List ℕ). (super_in block).s_start) (same 0) ∙ is.clean;
 }
 
--- and have the same limit
+-- two images of one log have the same limit
 pub same-limit : (shape : Shape) (image other : Image) (limit : ℕ) → SameLog image other → HasLimit shape image limit → HasLimit shape other limit
 same-limit shape image other limit same (OfClean clean) =
     subst (HasLimit shape other) (ap (λ (block : List ℕ). (super_in block).s_sequence) (same 0)) (OfClean (same-clean shape image other same clean))
@@ -45,23 +45,23 @@ one-limit shape image limit other (OfChain texts has) (OfClean clean) = absurd (
 one-limit shape image limit other (OfChain texts has) (OfChain others also) =
     ap (λ (ts : List Text). (super_of image).s_sequence + length ts) (one-chain shape image others texts also has)
 
--- so it has one count
+-- an image has one count
 one-count : (shape : Shape) (image : Image) (ts : History) (n m : ℕ) → IsCountOf shape image ts n → IsCountOf shape image ts m → n ≡ m
 one-count shape image ts n m is also =
     is.count ∙ ap (λ (limit : ℕ). numbered_below limit ts) (one-limit shape image is.limit also.limit is.has also.has) ∙ sym also.count
 
--- which depends on the log alone
+-- the count depends on the log alone
 same-count : (shape : Shape) (image other : Image) (ts : History) (n : ℕ) → SameLog image other → IsCountOf shape image ts n → IsCountOf shape other ts n
 same-count shape image other ts n same is =
     record { limit = is.limit; has = same-limit shape image other is.limit same is.has; count = is.count }
 
--- where an image of the same log becomes the pin
+-- an image of the same log may become the pin
 pin-count : (shape : Shape) (pin : Option Image) (image other : Image) (ts : History) (n : ℕ) → SameLog image other →
     IsCountOf shape (unwrap_or pin image) ts n → IsCountOf shape (unwrap_or pin other) ts n
 pin-count shape None image other ts n same is = same-count shape image other ts n same is
 pin-count shape (Some p) image other ts n same is = is
 
--- what a flush may leave, the disk might leave before
+-- a crash image of a flushed disk is one of the disk before
 pub flushed-leaves : (disk : Disk) (area : Area) (image : Image) → Leaves (flushed disk area) image → Leaves disk image
 flushed-leaves disk area image leaves = record { each = λ a n. each area a n (leaves.each a n) }
   where
@@ -71,21 +71,21 @@ flushed-leaves disk area image leaves = record { each = λ a n. each area a n (l
     each Home Log n one = one
     each Home Home n one = held-read (disk Home n) (image Home n) one
 
--- what the disk reads may be left
+-- what the disk reads may be left by a crash
 pub reads-left : (disk : Disk) → Leaves disk (reading disk)
 reads-left disk = record { each = λ a n. inl refl }
 
--- over a flush of an area
+-- the flush of an area keeps the promise
 pub flush-keeps : (shape : Shape) (epoch : Option Epoch) (disk : Disk) (area : Area) → KeepsNow shape epoch disk → KeepsNow shape epoch (flushed disk area)
 flush-keeps shape None disk area keeps = tt
 flush-keeps shape (Some epoch) disk area keeps = λ image leaves. keeps image (flushed-leaves disk area image leaves)
 
--- what is held in a durable block
+-- a durable block holds one value
 only : (v w : List ℕ) → (v ≡ w) ⊎ ⊥ → v ≡ w
 only v w (inl is) = is
 only v w (inr none) = absurd none
 
--- over the flush of the log that pins what the device reads
+-- the log's flush that pins what the device reads keeps the promise
 pub pin-keeps : (shape : Shape) (epoch : Option Epoch) (disk : Disk) → KeepsNow shape epoch disk →
     KeepsNow shape (pinning epoch (reading disk)) (flushed disk Log)
 pin-keeps shape None disk keeps = tt
@@ -106,7 +106,7 @@ pin-keeps shape (Some epoch) disk keeps = λ image leaves ts are.
 left-alone : (left image : Image) → Leaves (disk_of left) image → left ≡ image
 left-alone left image leaves = fun_ext (λ a. fun_ext (λ n. sym (only (image a n) (left a n) (leaves.each a n))))
 
--- over a stop
+-- a crash keeps the promise
 pub stop-keeps : (shape : Shape) (epoch : Option Epoch) (disk : Disk) (left : Image) → Leaves disk left → KeepsNow shape epoch disk →
     KeepsNow shape (pinning epoch left) (disk_of left)
 stop-keeps shape None disk left out keeps = tt
@@ -134,24 +134,24 @@ pub pinning-pins : (epoch : Option Epoch) (image : Image) → IsPinned (pinning 
 pinning-pins None image = tt
 pinning-pins (Some epoch) image = (unwrap_or epoch.pin image, refl)
 
--- where there is one, another image does not matter
+-- with a pin, another image does not matter
 pub pin-stays : (pin : Option Image) (p image other : Image) → pin ≡ Some p → unwrap_or pin image ≡ unwrap_or pin other
 pin-stays pin p image other is = ap (λ (o : Option Image). unwrap_or o image) is ∙ sym (ap (λ (o : Option Image). unwrap_or o other) is)
 
--- the disk as the flush of the log left it, at the begin of an opening
+-- the disk as the opening's flush of the log left it
 pub record IsFlushed (shape : Shape) (found : Found) (epoch : Option Epoch) (base : Disk) : Type 0 where
   pub log : (n : ℕ) → base Log n ≡ durable_cell (found.image Log n)
   pub home : (b : ℕ) → (base Home b).reads ≡ found.image Home b
   pub pin : IsPinned epoch
   pub keeps : KeepsNow shape epoch base
 
--- the limit of a chain
+-- a chain has its limit
 pub found-chain : (shape : Shape) (image : Image) (texts : List Text) (limit : ℕ) → HasTexts shape image texts limit → HasChain shape image texts →
     limit ≡ (super_of image).s_sequence + length texts
 found-chain shape image texts limit (NoTexts clean) has = absurd (has.started.started clean.clean)
 found-chain shape image texts limit (Texts ts also) has = refl
 
--- replay and its end may begin
+-- the replay may begin
 pub ready : (shape : Shape) (found : Found) (epoch : Option Epoch) (base : Disk) → IsFound shape found → HasChain shape found.image found.texts →
     IsFlushed shape found epoch base → IsReadyFor shape found.texts (clean_superblock found) found.image base
 ready shape found epoch base is has flush =
@@ -174,7 +174,7 @@ ready shape found epoch base is has flush =
           });
     }
 
--- each moment of replay and its end keeps what the flush kept
+-- each moment of the replay and its end keeps what the flush kept
 pub replaying-keeps : (shape : Shape) (found : Found) (epoch : Option Epoch) (base disk : Disk) → IsFound shape found → HasChain shape found.image found.texts →
     IsFlushed shape found epoch base → IsReplaying shape.home_blocks found.texts (clean_superblock found) base disk → KeepsNow shape epoch disk
 replaying-keeps shape found None base disk is has flush replaying = tt

@@ -1,13 +1,13 @@
--- Moves of the journal's world, one behind the other.
+-- Sequences of moves of the journal's world.
 use Rattle.std.proofs.Common.{refl, subst}
 use Rattle.std.specs.Prelude.{List, [], ◌∷◌, ◌++◌}
 use Rattle.log_epochs.specs.JournalWorld.{JournalWorld, Leads, Move, Moves}
 
--- moves, and others behind them
+-- two sequences of moves join
 pub leads-behind : (a b c : JournalWorld) (ms ns : List Move) → Leads a ms b → Leads b ns c → Leads a (ms ++ ns) c
 leads-behind a b c [] ns one two = subst (λ (w : JournalWorld). Leads w ns c) one two
 leads-behind a b c (m ∷ ms) ns one two = (one.0, one.1, leads-behind one.0 b c ms ns one.2 two)
 
--- moves, and one more
+-- a sequence takes one more move
 pub leads-more : (start mid new : JournalWorld) (moves : List Move) (move : Move) → Leads start moves mid → Moves mid move new → Leads start (moves ++ move ∷ []) new
 leads-more start mid new moves move leads on = leads-behind start mid new moves (move ∷ []) leads (new, on, refl)

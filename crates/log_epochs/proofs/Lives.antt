@@ -36,14 +36,14 @@ pub record RunsIn (shape : Shape) (epoch : Epoch) (disk : Disk) : Type 0 where
   pub pin : epoch.pin ≡ None
   pub runs : IsRunning shape epoch.opening epoch.directs epoch.engine disk
 
--- an epoch whose log is being closed: each image that reads as the new superblock is closed
+-- an epoch whose log is being closed: images with the new superblock are closed
 pub record IsClosing (shape : Shape) (epoch : Option Epoch) (disk : Disk) : Type 0 where
   pub now : Epoch
   pub is : epoch ≡ Some now
   pub keeps : KeepsNow shape epoch disk
   pub closed : (image : Image) → Leaves disk image → image Log 0 ≡ (disk Log 0).reads → IsClosed shape now image
 
--- what holds in each phase
+-- the invariant of each phase
 abbrev pub HoldsAt : Shape → Option Epoch → Disk → Phase → Type 0
 HoldsAt shape epoch disk Shut = KeepsNow shape epoch disk
 HoldsAt shape epoch disk (Opening found stage) = (base : Disk) × IsFound shape found × StageHolds shape found base stage epoch disk
@@ -59,14 +59,14 @@ Holds w = HoldsAt w.shape w.epoch w.disk w.phase × AllByRecursion (EndedWell w.
 no-pin : (epoch : Epoch) → epoch.pin ≡ None → running_epoch epoch.opening epoch.directs epoch.engine ≡ epoch
 no-pin epoch none = ap (λ (o : Option Image). let e : Epoch = record { opening = epoch.opening; engine = epoch.engine; directs = epoch.directs; pin = o } in e) (sym none)
 
--- what is known of an epoch with no pin is known of the world's
+-- what holds of an epoch without a pin holds of the current one
 of-now : (shape : Shape) (epoch : Option Epoch) (now : Epoch) (disk : Disk) → epoch ≡ Some now → now.pin ≡ None →
     KeepsNow shape (Some (running_epoch now.opening now.directs now.engine)) disk → KeepsNow shape epoch disk
 of-now shape epoch now disk is none keeps =
     subst (λ (o : Option Epoch). KeepsNow shape o disk) (sym is)
     (subst (λ (x : Epoch). KeepsNow shape (Some x) disk) (no-pin now none) keeps)
 
--- in each phase each image that a stop may leave keeps what is promised
+-- in each phase each crash image keeps the promise
 pub phase-keeps : (shape : Shape) (epoch : Option Epoch) (disk : Disk) (phase : Phase) → HoldsAt shape epoch disk phase → KeepsNow shape epoch disk
 phase-keeps shape epoch disk Shut holds = holds
 phase-keeps shape epoch disk (Opening found stage) holds = stage-keeps shape found holds.0 stage epoch disk holds.1 holds.2
@@ -76,7 +76,7 @@ phase-keeps shape epoch disk Running (now, is, runs) =
 phase-keeps shape epoch disk Closing holds = holds.keeps
 phase-keeps shape epoch disk Closed holds = holds.0
 
--- and a closed log is
+-- in phase `Closed` each crash image is closed
 phase-closed : (shape : Shape) (epoch : Option Epoch) (disk : Disk) (phase : Phase) → HoldsAt shape epoch disk phase → KeepsClosed shape epoch disk phase
 phase-closed shape epoch disk Closed holds = holds.1
 phase-closed shape None disk Shut holds = tt
@@ -90,11 +90,11 @@ phase-closed shape (Some epoch) disk Running holds = tt
 phase-closed shape None disk Closing holds = tt
 phase-closed shape (Some epoch) disk Closing holds = tt
 
--- the running engine is the epoch's
+-- the running engine is that of the current epoch
 pub runs-in : (shape : Shape) (epoch : Option Epoch) (now : Epoch) (disk : Disk) → epoch ≡ Some now → HoldsAt shape epoch disk Running → RunsIn shape now disk
 runs-in shape epoch now disk is (other, also, runs) = subst (λ (x : Epoch). RunsIn shape x disk) (same_Some other now (sym also ∙ is)) runs
 
--- a step of the engine
+-- a step of the engine keeps the invariant
 step-holds : (old new : World) (event : Event) → Holds old → Steps old event new → Holds new
 step-holds old new event holds step =
     let w : World = record old { disk = new.disk; epoch = Some (record step.epoch { engine = step.engine; directs = with_directs event step.epoch.directs }) } in
@@ -110,12 +110,12 @@ step-holds old new event holds step =
     ) in
     subst Holds (sym step.after) (subst (HoldsAt w.shape w.epoch w.disk) (sym step.running) now, holds.1)
 
--- what is known of images of an epoch with no pin is known of the epoch
+-- a closed image of a running epoch is one of the epoch
 of-epoch : (shape : Shape) (now : Epoch) (image : Image) → now.pin ≡ None →
     IsClosed shape (running_epoch now.opening now.directs now.engine) image → IsClosed shape now image
 of-epoch shape now image none closed = subst (λ (x : Epoch). IsClosed shape x image) (no-pin now none) closed
 
--- the superblock of a clean log is written
+-- the invariant once the clean superblock is written
 closing : (shape : Shape) (epoch : Option Epoch) (now : Epoch) (disk : Disk) → epoch ≡ Some now → MayClose now.engine → RunsIn shape now disk →
     IsClosing shape epoch (written disk Log 0 (closed_superblock now.engine))
 closing shape epoch now disk is may runs =
@@ -130,20 +130,20 @@ closing shape epoch now disk is may runs =
           of-epoch shape now image runs.pin (close-closes shape now.opening now.directs now.engine disk new runs.runs may write image leaves (first ∙ reads));
     }
 
--- it is flushed
+-- each crash image is closed once it is flushed
 closed : (shape : Shape) (epoch : Option Epoch) (disk : Disk) → IsClosing shape epoch disk → KeepsClosed shape epoch (flushed disk Log) Closed
 closed shape epoch disk closing =
     subst (λ (o : Option Epoch). KeepsClosed shape o (flushed disk Log) Closed) (sym closing.is)
     (λ image leaves.
     closing.closed image (flushed-leaves disk Log image leaves) (⊎_elim (λ same. same) (λ none. absurd none) (leaves.each Log 0)))
 
--- a call of a close that succeeds
+-- a call of a close keeps the invariant
 close-at : (shape : Shape) (epoch : Option Epoch) (now : Epoch) (disk : Disk) (phase next : Phase) (call : Call) → epoch ≡ Some now →
     CloseCall now.engine phase call next → HoldsAt shape epoch disk phase → HoldsAt shape epoch (after_success call disk) next
 close-at shape epoch now disk phase next call is (WriteClosed may) holds = closing shape epoch now disk is may (runs-in shape epoch now disk is holds)
 close-at shape epoch now disk phase next call is FlushClosed holds = (flush-keeps shape epoch disk Log holds.keeps, closed shape epoch disk holds)
 
--- one that fails
+-- a failed call of a close keeps the invariant
 close-fails : (shape : Shape) (epoch : Option Epoch) (now : Epoch) (disk after : Disk) (phase next : Phase) (call : Call) → epoch ≡ Some now →
     CloseCall now.engine phase call next → HoldsAt shape epoch disk phase → IsAfterFault call disk after → KeepsNow shape epoch after
 close-fails shape epoch now disk after phase next call is (WriteClosed may) holds fault =
@@ -152,12 +152,12 @@ close-fails shape epoch now disk after phase next call is (WriteClosed may) hold
     (close-keeps shape now.opening now.directs now.engine disk after runs.runs may (is_write-fault disk after 0 (closed_superblock now.engine) fault))
 close-fails shape epoch now disk after phase next call is FlushClosed holds fault = undone-keeps shape epoch Log disk after fault holds.keeps
 
--- a value that is held alone
+-- a value that is held alone is the only one
 only-one : (v w : List ℕ) → IsOneOf (v ∷ []) w → w ≡ v
 only-one v w (inl same) = same
 only-one v w (inr none) = absurd none
 
--- an opened log is a clean one, whatever a stop leaves of it
+-- each crash image of an opened log is clean
 opened-clean : (shape : Shape) (disk : Disk) (superblock : List ℕ) (next : ℕ) (image : Image) → IsOpenedLog shape disk superblock next → Leaves disk image →
     IsClean shape image
 opened-clean shape disk superblock next image log leaves =
@@ -167,7 +167,7 @@ opened-clean shape disk superblock next image log leaves =
       clean = ap (λ (block : List ℕ). (super_in block).s_start) reads ∙ log.named.clean;
     }
 
--- an epoch ends well with the opening that answers Ok
+-- an epoch ends well when an opening answers Ok
 ending-well : (shape : Shape) (epoch : Option Epoch) (disk : Disk) (ended : List Ended) → IsPinned epoch → KeepsNow shape epoch disk →
     ((image : Image) → Leaves disk image → IsClean shape image) → AllByRecursion (EndedWell shape) ended → AllByRecursion (EndedWell shape) (ending epoch disk ended)
 ending-well shape None disk ended pin keeps clean all = all
@@ -186,7 +186,7 @@ fresh-runs shape superblock next disk log = record {
   };
 }
 
--- Ok is answered
+-- an opening that answers Ok keeps the invariant
 answer-holds : (old new : World) → Holds old → AnswersOk old new → Holds new
 answer-holds old new holds answer =
     let x : Found = answer.found in
@@ -199,7 +199,7 @@ answer-holds old new holds answer =
           (λ image leaves. opened-clean old.shape old.disk superblock (next_of x) image done.log leaves) holds.1,
     )
 
--- each move keeps what holds
+-- each move keeps the invariant
 pub move-holds : (old new : World) (move : Move) → Holds old → Moves old move new → Holds new
 move-holds old new (Step event) holds moves = step-holds old new event holds moves
 move-holds old new CloseStep holds moves =
@@ -239,7 +239,7 @@ move-holds old new (Upgrade UpgradeFault) holds moves =
     (upgrade-fault old.shape moves.block moves.stage moves.next moves.call old.epoch old.disk new.disk moves.due upgrading moves.disk_is, holds.1)
 move-holds old new AnswerOk holds moves = answer-holds old new holds moves
 
--- so do moves that follow one another
+-- a sequence of moves keeps the invariant
 pub life-holds : (old new : World) (moves : List Move) → Holds old → Leads old moves new → Holds new
 life-holds old new [] holds same = subst Holds (sym same) holds
 life-holds old new (move ∷ moves) holds (mid, first, rest) = life-holds mid new moves (move-holds old mid move holds first) rest

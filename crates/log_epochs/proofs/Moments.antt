@@ -1,5 +1,5 @@
--- At each moment of an opening nothing is written yet, or every image opens to what every image opened to when the log was
--- flushed. And what a world promises of an image can be opened, as long as numbers are left.
+-- At each moment of an opening nothing is written, or every image opens to the n of the flush; and what opens can be
+-- opened.
 use Rattle.std.proofs.Common.{refl, sym, subst, inl, inr, ⊎_elim}
 use Rattle.std.specs.Prelude.{◌≡◌, ◌⊎◌, ⊤, ℕ, ◌<◌, [], length, None}
 use Rattle.journal_model.specs.declared.number.Area.TheVariants.{Log, Home}
@@ -43,12 +43,12 @@ call-later shape found disk stage next call (FlushHome replayed) = tt
 call-later shape found disk stage next call WriteSuperblock = tt
 call-later shape found disk stage next call FlushSuperblock = tt
 
--- so nothing is written there
+-- at the first stage nothing is written
 pub reached-first : (shape : Shape) (found : Found) (old : Disk) (stage : OpeningStage) (disk : Disk) → Reached shape found old stage disk → (disk ≡ old) ⊎ IsLater stage
 reached-first shape found old stage disk Tested = inl refl
 reached-first shape found old stage disk (Called before next call mid new reached due same) = inr (call-later shape found mid before next call due)
 
--- while home is written and the log is cleaned
+-- the moments of the replay are past the flush
 replaying-past : (shape : Shape) (found : Found) (old disk : Disk) → IsFound shape found → HasChain shape found.image found.texts →
     IsFlushed shape found None (flushed old Log) → IsReplaying shape.home_blocks found.texts (clean_superblock found) (flushed old Log) disk →
     IsPastFlush shape found old disk
@@ -61,7 +61,7 @@ replaying-past shape found old disk is has flush replaying = record {
   block_0 = λ v one. ⊎_elim (λ was. inl (⊎_elim (λ same. same) (λ none. absurd none) was)) (λ new. inr (new.0, has)) (replaying.block_0 v one);
 }
 
--- nothing is written but the flush
+-- the flush alone is past the flush
 flushed-past : (shape : Shape) (found : Found) (old : Disk) → IsPastFlush shape found old (flushed old Log)
 flushed-past shape found old = record {
   keeps = record { keeps = λ ts n always. always };
@@ -93,7 +93,7 @@ later-past shape found old SuperblockWrite disk is later holds = copying-past sh
 later-past shape found old SuperblockFlush disk is later holds = cleaning-past shape found old disk is holds.cleaning
 later-past shape found old Done disk is later holds = whole-past shape found old disk is holds.flush holds.whole
 
--- a call that failed left the disk as it was, or so
+-- a failed call left the disk past the flush
 fault-past : (shape : Shape) (found : Found) (old : Disk) (stage next : OpeningStage) (call : Call) (disk after : Disk) → IsFound shape found →
     OpeningCall shape found disk stage call next → StageHolds shape found (flushed old Log) stage None disk → IsAfterFault call disk after →
     (after ≡ disk) ⊎ IsPastFlush shape found old after
@@ -108,7 +108,7 @@ fault-past shape found old stage next call disk after is WriteSuperblock holds f
     (cleaning-write shape found (flushed old Log) None disk after holds (is_write-fault disk after 0 (clean_superblock found) fault)))
 fault-past shape found old stage next call disk after is FlushSuperblock holds fault = inl (flush-undone Log disk after fault)
 
--- a disk that was reached is the old one, or behind the flush
+-- each reached disk is the old one, or past the flush
 at-keeps : (shape : Shape) (found : Found) (old : Disk) (stage : OpeningStage) (disk : Disk) → IsFoundOn shape found old → Reached shape found old stage disk →
     KeepsCount shape old disk
 at-keeps shape found old stage disk is reached =
@@ -116,7 +116,7 @@ at-keeps shape found old stage disk is reached =
     (λ later. Past found is (later-past shape found old stage disk is.good later (reached-holds shape found old stage disk is reached)))
     (reached-first shape found old stage disk reached)
 
--- so it is at each moment of an opening
+-- each moment of an opening keeps the count
 pub moment-keeps : (shape : Shape) (old disk : Disk) → IsMoment shape old disk → KeepsCount shape old disk
 moment-keeps shape old disk (Unread same) = Unwritten same
 moment-keeps shape old disk (At found stage is reached) = at-keeps shape found old stage disk is reached
@@ -127,7 +127,7 @@ moment-keeps shape old disk (Fault found is failed) =
     (fault-past shape found old failed.stage failed.next failed.call failed.disk disk is.good failed.due
     (reached-holds shape found old failed.stage failed.disk is failed.reached) failed.fault)
 
--- an image that is opened to something is good, where a number is left
+-- an image that opens is good, if a number is left
 pub can-open : (shape : Shape) (image : Image) (got : Volume) → OpensAs shape image got → length (image Log 0) ≡ shape.block_size →
     ((limit : ℕ) → HasLimit shape image limit → limit < greatest_number) → (found : Found) × (found.image ≡ image) × IsFound shape found
 can-open shape image got (Clean clean none same) size small = (

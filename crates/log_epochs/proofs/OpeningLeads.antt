@@ -1,4 +1,4 @@
--- An opening whose calls succeeded is a run of moves, whatever world it begins in.
+-- The calls of an opening are a run of moves, in any world.
 use Rattle.std.proofs.Common.{refl, sym, ap, ap₂, subst, ◌∙◌, ⊎_elim}
 use Rattle.std.specs.Prelude.{◌≡◌, ◌⊎◌, ℕ, ◌+◌, List, [], ◌∷◌, ◌++◌, replicate, Option}
 use Rattle.std.proofs.lemmas.List.{append_assoc, replicate_more}
@@ -15,7 +15,7 @@ use Rattle.log_epochs.specs.OpeningSteps.{Found, OpeningStage, next_of}
 use Rattle.log_epochs.specs.OpeningSteps.OpeningStage.{LogFlush, Copies, SuperblockWrite, SuperblockFlush, Done}
 use Rattle.log_epochs.proofs.Moments.{IsLater, call-later, reached-first}
 
--- the epoch where an opening has come to this stage: it is pinned from the flush of the log on
+-- the epoch at this stage: pinned from the flush of the log on
 abbrev pinned_at : OpeningStage → Option Epoch → Image → Option Epoch
 pinned_at LogFlush epoch image = epoch
 pinned_at Copies epoch image = pinning epoch image
@@ -23,11 +23,11 @@ pinned_at SuperblockWrite epoch image = pinning epoch image
 pinned_at SuperblockFlush epoch image = pinning epoch image
 pinned_at Done epoch image = pinning epoch image
 
--- the world there
+-- the world at this stage
 abbrev opening_at : World → Found → OpeningStage → Disk → World
 opening_at w found stage disk = record w { disk = disk; phase = Opening found stage; epoch = pinned_at stage w.epoch (reading w.disk) }
 
--- a call at the begin pins what the old disk reads, and a later one nothing more
+-- the first call pins what the old disk reads, and no later one pins
 step-pins : (stage : OpeningStage) (epoch : Option Epoch) (old disk : Disk) → (disk ≡ old) ⊎ IsLater stage →
     pinning epoch (reading old) ≡ pinning_at stage (pinned_at stage epoch (reading old)) (reading disk)
 step-pins LogFlush epoch old disk at = ⊎_elim (λ same. ap (λ (d : Disk). pinning epoch (reading d)) (sym same)) (λ later. absurd later) at
@@ -36,7 +36,7 @@ step-pins SuperblockWrite epoch old disk at = refl
 step-pins SuperblockFlush epoch old disk at = refl
 step-pins Done epoch old disk at = refl
 
--- behind a call the epoch is pinned
+-- after the first call the epoch is pinned
 later-pinned : (stage : OpeningStage) (epoch : Option Epoch) (image : Image) → IsLater stage → pinned_at stage epoch image ≡ pinning epoch image
 later-pinned LogFlush epoch image later = absurd later
 later-pinned Copies epoch image later = refl
@@ -44,12 +44,12 @@ later-pinned SuperblockWrite epoch image later = refl
 later-pinned SuperblockFlush epoch image later = refl
 later-pinned Done epoch image later = refl
 
--- some calls lead from the begin to this world, whatever moves lead on from there
+-- some calls lead from the begin to this world
 abbrev LeadsOver : World → Found → World → Type 0
 LeadsOver w found mid =
     (calls : ℕ) × ((moves : List Move) (end : World) → Leads mid moves end → Leads w (Begin found ∷ replicate calls OpeningStep ++ moves) end)
 
--- one more call
+-- one more call leads on
 one-more : (w : World) (found : Found) (mid new : World) → Recovers mid new → LeadsOver w found mid → LeadsOver w found new
 one-more w found mid new step (calls, over) = (
   calls + 1,
@@ -59,7 +59,7 @@ one-more w found mid new step (calls, over) = (
       subst (λ (ms : List Move). Leads w (Begin found ∷ ms) end) split (over (OpeningStep ∷ moves) end (new, step, on)),
 )
 
--- all that an opening reaches
+-- calls lead to each disk that an opening reaches
 reaches : (w : World) (found : Found) (stage : OpeningStage) (disk : Disk) → w.phase ≡ Shut → IsFoundOn w.shape found w.disk →
     Reached w.shape found w.disk stage disk → LeadsOver w found (opening_at w found stage disk)
 reaches w found stage disk shut is Tested =

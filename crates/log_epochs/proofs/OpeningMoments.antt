@@ -1,4 +1,4 @@
--- Each moment of an opening is one that moves of the machine lead to.
+-- Moves of the machine lead to each moment of an opening.
 use Rattle.std.proofs.Common.{refl, ap, ◌∙◌}
 use Rattle.std.specs.Prelude.{◌≡◌, List, [], ◌∷◌, ◌++◌, Option, Some, None}
 use Rattle.journal_model.specs.Disk.{Disk, Image, reading}
@@ -17,7 +17,7 @@ use Rattle.log_epochs.specs.OpeningSteps.{Found, OpeningCall, OpeningStage}
 use Rattle.log_epochs.specs.OpeningSteps.OpeningStage.{Copies, Done, LogFlush, SuperblockFlush, SuperblockWrite}
 use Rattle.log_epochs.proofs.Leading.{leads-more}
 
--- what is pinned is not pinned anew
+-- a pin is not pinned again
 pinned-once : (epoch : Option Epoch) (first second : Image) → pinning (pinning epoch first) second ≡ pinning epoch first
 pinned-once None first second = refl
 pinned-once (Some epoch) first second = refl
@@ -26,7 +26,7 @@ pinned-again : (old new : Option Epoch) (image : Image) → PinsAtMost old new �
 pinned-again old new image (Unpinned same) = PinnedAt image (ap (λ (e : Option Epoch). pinning e image) same)
 pinned-again old new image (PinnedAt first same) = PinnedAt first (ap (λ (e : Option Epoch). pinning e image) same ∙ pinned-once old first image)
 
--- a call pins at most
+-- a call at most pins the epoch
 step-pins : (stage : OpeningStage) (old new : Option Epoch) (image : Image) → PinsAtMost old new → PinsAtMost old (pinning_at stage new image)
 step-pins LogFlush old new image pins = pinned-again old new image pins
 step-pins Copies old new image pins = pins
@@ -35,7 +35,7 @@ step-pins SuperblockFlush old new image pins = pins
 step-pins Done old new image pins = pins
 
 module _ (w : JournalWorld) (shut : w.below.phase ≡ Shut) where
-  -- the world with this disk, while this works on it
+  -- the world with this disk, phase and epoch
   abbrev at : Disk → Phase → Option Epoch → JournalWorld
   at disk phase epoch = record w { below = record w.below { disk = disk; phase = phase; epoch = epoch } }
 
@@ -46,7 +46,7 @@ module _ (w : JournalWorld) (shut : w.below.phase ≡ Shut) where
     pub moves : List Move
     pub leads : Leads w moves (at disk (Opening found stage) epoch)
 
-  -- it has read the log
+  -- moves lead to its begin
   begins : (found : Found) → IsFoundOn w.below.shape found w.below.disk → ComesToStage found LogFlush w.below.disk
   begins found is = record {
     epoch = w.below.epoch;
@@ -59,7 +59,7 @@ module _ (w : JournalWorld) (shut : w.below.phase ≡ Shut) where
     );
   }
 
-  -- one more of its calls succeeded
+  -- moves lead over one more call
   goes-on : (found : Found) (stage next : OpeningStage) (call : Call) (disk new : Disk) → OpeningCall w.below.shape found disk stage call next → new ≡ after_success call disk →
       ComesToStage found stage disk → ComesToStage found next new
   goes-on found stage next call disk new due same before =
@@ -84,13 +84,13 @@ module _ (w : JournalWorld) (shut : w.below.phase ≡ Shut) where
             });
       }
 
-  -- all that its calls reach
+  -- moves lead to each disk that its calls reach
   reaches : (found : Found) (stage : OpeningStage) (disk : Disk) → IsFoundOn w.below.shape found w.below.disk → Reached w.below.shape found w.below.disk stage disk →
       ComesToStage found stage disk
   reaches found stage disk is Tested = begins found is
   reaches found stage disk is (Called before next call mid new calls due same) = goes-on found before next call mid new due same (reaches found before mid is calls)
 
-  -- its device fails in a call
+  -- moves lead to its failed call
   fails : (found : Found) (disk : Disk) → IsFoundOn w.below.shape found w.below.disk → Failed w.below.shape found w.below.disk disk → ComesTo w disk
   fails found disk is failed =
       let before = reaches found failed.stage failed.disk is failed.reached in
@@ -115,7 +115,7 @@ module _ (w : JournalWorld) (shut : w.below.phase ≡ Shut) where
             });
       }
 
-  -- each moment of it
+  -- moves lead to each moment of it
   pub moment-comes : (disk : Disk) → IsMoment w.below.shape w.below.disk disk → ComesTo w disk
   moment-comes disk (Unread same) = record {
     phase = w.below.phase;

@@ -1,4 +1,4 @@
--- While a log is replayed, and when it is clean again, each image opens as every image did before.
+-- During a replay, and once the log is clean, each image opens as before.
 use Rattle.std.proofs.Common.{refl, sym, ◌∙◌, ap, subst, arith, inl, inr, ⊎_elim}
 use Rattle.std.specs.Prelude.{◌≡◌, ◌≢◌, ◌⊎◌, ℕ, ◌+◌, ◌<◌, ◌≤◌, true, List, length, map, None}
 use Rattle.std.specs.List.{range_with_len}
@@ -24,7 +24,7 @@ use Rattle.journal_world.proofs.Superblocks.{accepted-first}
 use Rattle.std.proofs.lemmas.Bool.{cases_eq}
 use Rattle.log_epochs.proofs.ReplayMoments.{IsHomeDone, IsReplaying}
 
--- what is held in a durable cell is what it reads
+-- a durable cell holds only what it reads
 pub durable-one : (c : Cell) (u v : List ℕ) → c ≡ durable_cell u → IsOneOf (held c) v → v ≡ u
 durable-one c u v is one = ⊎_elim (λ same. same) (λ none. absurd none) (subst (λ (d : Cell). IsOneOf (held d) v) is one)
 
@@ -37,7 +37,7 @@ with_home image home Home n = home n
 abbrev pub SameLog : Image → Image → Type 0
 SameLog image other = (n : ℕ) → other Log n ≡ image Log n
 
--- so they have the same lap
+-- images of one log have the same lap from a place
 same-lap : (image other : Image) (r : Ring) (place : ℕ) → SameLog image other → lap r other place ≡ lap r image place
 unfolding lap
 same-lap image other r place same = each (range_with_len 0 r.blocks)
@@ -45,20 +45,20 @@ same-lap image other r place same = each (range_with_len 0 r.blocks)
     each : (ks : List ℕ) → map (λ k. other Log (place_from r place k)) ks ≡ map (λ k. image Log (place_from r place k)) ks
     each ks = simp same
 
--- and the same lap of the log
+-- images of one log have the same lap of the log
 pub same-log_lap : (image other : Image) → SameLog image other → log_lap other ≡ log_lap image
 same-log_lap image other same =
     same-lap image other (ring_of (super_of other)) (super_of other).s_start same
     ∙ ap (λ (block : List ℕ). lap (ring_of (super_in block)) image (super_in block).s_start) (same 0)
 
--- so they are started alike
+-- images of one log are started alike
 same-started : (shape : Shape) (image other : Image) → SameLog image other → IsStarted shape image → IsStarted shape other
 same-started shape image other same is = record {
   accepted = ap (super_refusal shape) (same 0) ∙ is.accepted;
   started = λ clean. is.started (sym (ap (λ (block : List ℕ). (super_in block).s_start) (same 0)) ∙ clean);
 }
 
--- and damaged alike
+-- images of one log are damaged alike
 same-damaged : (shape : Shape) (image other : Image) (k : ℕ) → SameLog image other → IsDamagedImage shape image k → IsDamagedImage shape other k
 same-damaged shape image other k same is = record {
   started = same-started shape image other same is.started;
@@ -69,7 +69,7 @@ same-damaged shape image other k same is = record {
       is.damaged);
 }
 
--- so they have the same chain
+-- images of one log have the same chain
 pub same-chain : (shape : Shape) (image other : Image) (texts : List Text) → SameLog image other → HasChain shape image texts → HasChain shape other texts
 same-chain shape image other texts same has = record {
   started = same-started shape image other same has.started;
@@ -86,7 +86,7 @@ pub one-chain : (shape : Shape) (image : Image) (texts others : List Text) → H
 one-chain shape image texts others has also =
     one_chain_of (layout_of (super_of image)) shape.home_blocks (omega arith) (super_of image).s_sequence (log_lap image) others texts also.chain has.chain
 
--- blocks of the same log are ahead alike
+-- images of one log have the same blocks ahead
 pub same-ahead : (image other : Image) (limit : ℕ) → SameLog image other → NothingAhead image limit → NothingAhead other limit
 same-ahead image other limit same none place ahead =
     none place (record {
@@ -96,12 +96,12 @@ same-ahead image other limit same none place ahead =
       above = subst (λ (block : List ℕ). limit < sequence_in block) (same place) ahead.above;
     })
 
--- what an image with a chain opens as: replay of that chain
+-- an image with a chain opens as the replay of that chain
 pub record IsOpened (shape : Shape) (image : Image) (texts : List Text) (got : Volume) : Type 0 where
   pub none_ahead : NothingAhead image ((super_of image).s_sequence + length texts)
   pub replayed : IsReplayed shape.home_blocks texts (image Home) got
 
--- an image that has a chain is opened by its replay
+-- an image with a chain is opened by its replay
 pub opened-by_chain : (shape : Shape) (image : Image) (texts : List Text) (got : Volume) → HasChain shape image texts → OpensAs shape image got → IsOpened shape image texts got
 opened-by_chain shape image texts got has (Clean clean none same) = absurd (has.started.started clean.clean)
 opened-by_chain shape image texts got has (Replayed others also none replayed) =
@@ -111,11 +111,11 @@ opened-by_chain shape image texts got has (Replayed others also none replayed) =
       replayed = subst (λ (ts : List Text). IsReplayed shape.home_blocks ts (image Home) got) one replayed;
     }
 
--- what a home block may hold while the chain is replayed: what it held, or its newest copy
+-- a home block holds what it held, or its newest copy
 abbrev pub IsKept : List Text → Disk → ℕ → List ℕ → Type 0
 IsKept texts old b v = IsOneOf (held (old Home b)) v ⊎ IsNewest texts b v
 
--- what the old disk could have left there
+-- a value that the old disk could have left there
 pub before : (texts : List Text) (old : Disk) (b : ℕ) (v : List ℕ) → IsKept texts old b v → List ℕ
 before texts old b v (inl was) = v
 before texts old b v (inr newest) = (old Home b).reads
@@ -125,7 +125,7 @@ unfolding before
 before-held texts old b v (inl was) = was
 before-held texts old b v (inr newest) = inl refl
 
--- replay makes the same of a block, whether its copy is there already or not
+-- a replay makes the same of a block, with or without its copy there
 before-replayed : (texts : List Text) (old : Disk) (b : ℕ) (v got : List ℕ) (kept : IsKept texts old b v) →
     IsNewest texts b got ⊎ (HasNoLive texts b × (got ≡ before texts old b v kept)) → IsNewest texts b got ⊎ (HasNoLive texts b × (got ≡ v))
 unfolding before
@@ -133,7 +133,7 @@ before-replayed texts old b v got (inl was) replayed = replayed
 before-replayed texts old b v got (inr newest) (inl copy) = inl copy
 before-replayed texts old b v got (inr newest) (inr none) = absurd (none.0 newest.i newest.k v newest.live)
 
--- and it is what the transactions make of the block
+-- that is what the transactions make of the block
 before-recovered : (texts : List Text) (old : Disk) (b : ℕ) (v got : List ℕ) (content : Content) (kept : IsKept texts old b v) →
     IsNewest texts b got ⊎ (HasNoLive texts b × (got ≡ before texts old b v kept)) → got ≡ bytes_of content (before texts old b v kept) → got ≡ bytes_of content v
 unfolding before
@@ -146,7 +146,7 @@ before-recovered texts old b v got Direct (inr newest) (inr none) recovered = ab
 abbrev pub home_before : (texts : List Text) (old : Disk) (home : Volume) → ((b : ℕ) → IsKept texts old b (home b)) → Volume
 home_before texts old home kept b = before texts old b (home b) (kept b)
 
--- with the log, it could have left this image
+-- the old disk could have left an image with that home
 pub leaves-before : (texts : List Text) (old : Disk) (image : Image) (home : Volume) (kept : (b : ℕ) → IsKept texts old b (home b)) →
     ((n : ℕ) → IsOneOf (held (old Log n)) (image Log n)) → Leaves old (with_home image (home_before texts old home kept))
 leaves-before texts old image home kept log = record { each = each }
@@ -155,7 +155,7 @@ leaves-before texts old image home kept log = record { each = each }
     each Log n = log n
     each Home b = before-held texts old b (home b) (kept b)
 
--- an image with the log of the old disk, whose home blocks hold what they held or their newest copies, opens as before
+-- an image with the old log, and old or newest values at home, opens as before
 pub opens-copying : (shape : Shape) (texts : List Text) (old : Disk) (image : Image) (ts : History) (n : ℕ) →
     HasChain shape image texts → ((m : ℕ) → IsOneOf (held (old Log m)) (image Log m)) → ((b : ℕ) → IsKept texts old b (image Home b)) →
     OpensAlways shape ts n old → Opens shape ts n image
@@ -172,11 +172,11 @@ opens-copying shape texts old image ts n has log kept always =
           λ b below. before-recovered texts old b (image Home b) (first.got b) (after ts n b) (kept b) (opened.replayed b below) (first.recovered b below);
     }
 
--- block b of the image is what replay makes of what the old disk held
+-- block b is what the replay makes of what the old disk held
 abbrev IsDoneAt : List Text → Disk → ℕ → List ℕ → Type 0
 IsDoneAt texts old b v = IsNewest texts b v ⊎ (HasNoLive texts b × IsOneOf (held (old Home b)) v)
 
--- replay of what the old disk could have left makes what is there already
+-- a replay of what the old disk could have left makes what is there
 done-recovered : (texts : List Text) (old : Disk) (b : ℕ) (v got : List ℕ) (content : Content) (kept : IsKept texts old b v) →
     IsDoneAt texts old b v → IsNewest texts b got ⊎ (HasNoLive texts b × (got ≡ before texts old b v kept)) →
     got ≡ bytes_of content (before texts old b v kept) → v ≡ bytes_of content v
@@ -188,7 +188,7 @@ done-recovered texts old b v got (Copy w) kept (inr none) (inl copy) recovered =
 done-recovered texts old b v got (Copy w) (inl was) (inr none) (inr also) recovered = sym also.1 ∙ recovered
 done-recovered texts old b v got (Copy w) (inr newest) (inr none) (inr also) recovered = absurd (none.0 newest.i newest.k v newest.live)
 
--- an image whose log is clean, with nothing ahead, and whose home is as replay of the old disk makes it opens as before
+-- an image with a clean log, nothing ahead and a replayed home opens as before
 pub opens-done : (shape : Shape) (texts : List Text) (old : Disk) (log image : Image) (ts : History) (n : ℕ) →
     HasChain shape log texts → ((m : ℕ) → IsOneOf (held (old Log m)) (log Log m)) →
     IsClean shape image → NothingAhead image (super_of image).s_sequence →
@@ -206,8 +206,8 @@ opens-done shape texts old log image ts n has was clean none kept done always =
           (opened.replayed b below) (first.recovered b below);
     }
 
--- what replay and its end rely on: the log was read and flushed, its chain is this one, and the new superblock is that of a
--- clean log with the same ring, which nothing is ahead of
+-- the premises of a replay: the log was read and flushed, with this chain, and the new superblock is a clean one of its
+-- ring
 pub record IsReadyFor (shape : Shape) (texts : List Text) (superblock : List ℕ) (read : Image) (old : Disk) : Type 0 where
   pub has : HasChain shape read texts
   pub durable : (m : ℕ) (v : List ℕ) → IsOneOf (held (old Log m)) v → v ≡ read Log m
@@ -217,7 +217,7 @@ pub record IsReadyFor (shape : Shape) (texts : List Text) (superblock : List ℕ
   pub ring : ring_of (super_in superblock) ≡ ring_of (super_of read)
   pub none_ahead : NothingAhead read (super_in superblock).s_sequence
 
--- an image with another block 0, which has the same ring: nothing is ahead in it either
+-- another block 0 of the same ring leaves nothing ahead
 ahead-other : (read image : Image) (superblock : List ℕ) → image Log 0 ≡ superblock → ((m : ℕ) → m ≢ 0 → image Log m ≡ read Log m) →
     0 < (ring_of (super_in superblock)).first → ring_of (super_in superblock) ≡ ring_of (super_of read) →
     NothingAhead read (super_in superblock).s_sequence → NothingAhead image (super_of image).s_sequence
@@ -235,22 +235,22 @@ ahead-other read image superblock first others above ring none place ahead =
           (subst (λ (block : List ℕ). (super_in block).s_sequence < sequence_in (image Log place)) first ahead.above);
     })
 
--- what a block holds that is not written is what it held
+-- a block that is not written holds only what it held
 held-kept : (old c : Cell) (v : List ℕ) → (c ≡ old) ⊎ (c ≡ durable_cell old.reads) → IsOneOf (held c) v → IsOneOf (held old) v
 held-kept old c v (inl same) one = subst (λ (d : Cell). IsOneOf (held d) v) same one
 held-kept old c v (inr durable) one = inl (durable-one c old.reads v durable one)
 
--- so it is with the log during replay, but for block 0
+-- the log holds only what it held, except in block 0
 pub log-held : (count : ℕ) (texts : List Text) (superblock : List ℕ) (old disk : Disk) (n : ℕ) (v : List ℕ) → IsReplaying count texts superblock old disk →
     n ≢ 0 → IsOneOf (held (disk Log n)) v → IsOneOf (held (old Log n)) v
 log-held count texts superblock old disk n v is other one = held-kept (old Log n) (disk Log n) v (is.log n other) one
 
--- what home may hold during replay
+-- what home may hold during a replay
 pub kept-home : (texts : List Text) (old disk : Disk) (image : Image) → HomeAddsOnly (IsNewest texts) old disk → Leaves disk image →
     (b : ℕ) → IsKept texts old b (image Home b)
 kept-home texts old disk image adds leaves b = adds.left b (image Home b) (leaves.each Home b)
 
--- what the log may hold during replay, but for a new block 0
+-- what the log may hold during a replay, except a new block 0
 pub kept-log : (count : ℕ) (texts : List Text) (superblock : List ℕ) (old disk : Disk) (image : Image) → IsReplaying count texts superblock old disk →
     Leaves disk image → IsOneOf (held (old Log 0)) (image Log 0) → (m : ℕ) → IsOneOf (held (old Log m)) (image Log m)
 kept-log count texts superblock old disk image is leaves first m =
@@ -259,7 +259,7 @@ kept-log count texts superblock old disk image is leaves first m =
       | inr other ↦ log-held count texts superblock old disk m (image Log m) is other (leaves.each Log m)
     ]
 
--- during replay and its end each image opens as before
+-- during a replay and its end each image opens as before
 pub opens-replaying : (shape : Shape) (texts : List Text) (superblock : List ℕ) (read : Image) (old disk : Disk) →
     IsReadyFor shape texts superblock read old → IsReplaying shape.home_blocks texts superblock old disk → KeepsOpening shape old disk
 opens-replaying shape texts superblock read old disk ready is = record {
@@ -285,7 +285,7 @@ opens-replaying shape texts superblock read old disk ready is = record {
         (kept-home texts old disk image is.home leaves)
         (λ b below. done b (image Home b) below (leaves.each Home b)) always
 
--- where the transactions leave a block to home, what it holds during replay could have been left there before
+-- a block left to home holds what could have been left there before
 pub direct-same : (texts : List Text) (old : Disk) (b : ℕ) (v got : List ℕ) (kept : IsKept texts old b v) →
     IsNewest texts b got ⊎ (HasNoLive texts b × (got ≡ before texts old b v kept)) → got ≡ before texts old b v kept → before texts old b v kept ≡ v
 unfolding before
@@ -293,7 +293,7 @@ direct-same texts old b v got (inl was) replayed recovered = refl
 direct-same texts old b v got (inr newest) (inl copy) recovered = sym recovered ∙ newest-same texts b got v copy newest
 direct-same texts old b v got (inr newest) (inr none) recovered = absurd (none.0 newest.i newest.k v newest.live)
 
--- so the blocks that the transactions leave to home are rightly held where they were before
+-- blocks that the transactions leave to home keep permitted values
 pub others-copying : (shape : Shape) (texts : List Text) (old opening : Disk) (directs : List (ℕ × List ℕ)) (log image : Image) (ts : History) (n : ℕ) →
     HasChain shape log texts → ((m : ℕ) → IsOneOf (held (old Log m)) (log Log m)) → ((b : ℕ) → IsKept texts old b (image Home b)) →
     OpensAlways shape ts n old → ((other : Image) → Leaves old other → OthersRightlyHeld shape.home_blocks opening directs ts n (other Home)) →

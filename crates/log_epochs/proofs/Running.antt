@@ -1,4 +1,4 @@
--- What a running engine keeps over each of its steps, and what each image that a stop may leave keeps then.
+-- What a running engine keeps, and what each crash image keeps then.
 use Rattle.std.proofs.Common.{refl, sym, ◌∙◌, ap, subst}
 use Rattle.std.specs.Prelude.{◌≡◌, ℕ, suc, List, [], ◌∷◌, Some, None}
 use Rattle.journal_model.specs.declared.entry.Batch.{Batch}
@@ -29,13 +29,13 @@ use Rattle.log_epochs.specs.EngineSteps.{Event, Happens, with_directs}
 use Rattle.log_epochs.specs.EngineSteps.Event.{Accept, Read, CommitStep, CommitFault, CheckpointStep, CheckpointFault, ReadFault, DirectWrite, DirectWriteFault, DirectSync, DirectSyncFault}
 use Rattle.log_epochs.specs.Epoch.{Epoch}
 
--- what an engine that runs in an epoch keeps
+-- the invariant of a running engine
 pub record IsRunning (shape : Shape) (opening : Disk) (directs : List (ℕ × List ℕ)) (engine : Engine) (disk : Disk) : Type 0 where
   pub shape_is : engine.shape ≡ shape
   pub sound : Sound engine disk
   pub home : HomeRight opening directs engine disk
 
--- the device of an engine is the same after each call of a commit
+-- a call of a commit keeps the shape
 stepped-shape : (e : Engine) (stage : Stage) → (stepped_from e stage).shape ≡ e.shape
 stepped-shape e Idle = refl
 stepped-shape e SuperblockWrite = refl
@@ -44,21 +44,21 @@ stepped-shape e (Blocks k) = refl
 stepped-shape e CommitWrite = refl
 stepped-shape e CommitFlush = refl
 
--- where a round begins
+-- the beginning of a round keeps the shape
 begun-shape : (e : Engine) (round : Round) → (begun_from e round).shape ≡ e.shape
 begun-shape e NoRound = refl
 begun-shape e (Copies transaction block) = refl
 begun-shape e TailWrite = refl
 begun-shape e TailFlush = refl
 
--- and after each call of a round
+-- a call of a round keeps the shape
 call-shape : (e : Engine) (round : Round) (call : Call) (new : Engine) → RoundCall e round call new → new.shape ≡ e.shape
 call-shape e round call new (CopyHome transaction block i b v next) = refl
 call-shape e round call new (FlushHome transaction block none) = refl
 call-shape e round call new WriteTail = refl
 call-shape e round call new FlushTail = refl
 
--- so it is after each step
+-- each step keeps the shape
 event-shape : (old new : Engine) (disk after : Disk) (event : Event) → Happens old disk event new after → new.shape ≡ old.shape
 event-shape old new disk after (Accept b) happens = ap (λ (e : Engine). e.shape) happens.engine.after
 event-shape old new disk after (Read b v) happens = ap (λ (e : Engine). e.shape) happens.engine
@@ -73,7 +73,7 @@ event-shape old new disk after (DirectWriteFault b v) happens = ap (λ (e : Engi
 event-shape old new disk after DirectSync happens = ap (λ (e : Engine). e.shape) happens.engine
 event-shape old new disk after DirectSyncFault happens = ap (λ (e : Engine). e.shape) happens.engine
 
--- it stays sound
+-- each step keeps the engine sound
 event-sound : (old new : Engine) (disk after : Disk) (event : Event) → Sound old disk → Happens old disk event new after → Sound new after
 event-sound old new disk after (Accept b) sound happens = subst (Sound new) (sym happens.disk_is) (accepts-sound old b new disk sound happens.engine)
 event-sound old new disk after (Read b v) sound happens =
@@ -89,7 +89,7 @@ event-sound old new disk after (DirectWriteFault b v) sound happens = direct-fau
 event-sound old new disk after DirectSync sound happens = direct-sound old new disk after (Flush Home) sound happens
 event-sound old new disk after DirectSyncFault sound happens = direct-fault-sound old new disk after (Flush Home) sound happens
 
--- and home holds what is rightly there, with the bytes of a direct write
+-- each step keeps permitted values at home
 event-right : (opening : Disk) (directs : List (ℕ × List ℕ)) (old new : Engine) (disk after : Disk) (event : Event) → HomeRight opening directs old disk →
     Happens old disk event new after → HomeRight opening (with_directs event directs) new after
 event-right opening directs old new disk after (Accept b) right happens =
@@ -112,7 +112,7 @@ event-right opening directs old new disk after DirectSync right happens =
 event-right opening directs old new disk after DirectSyncFault right happens =
     direct-fault-right opening directs directs old new disk after (Flush Home) (flush-directs directs) happens right
 
--- each step keeps what a running engine keeps
+-- each step keeps the invariant
 pub event-runs : (shape : Shape) (opening : Disk) (directs : List (ℕ × List ℕ)) (old new : Engine) (disk after : Disk) (event : Event) →
     IsRunning shape opening directs old disk → Happens old disk event new after → IsRunning shape opening (with_directs event directs) new after
 event-runs shape opening directs old new disk after event runs happens = record {
@@ -121,7 +121,7 @@ event-runs shape opening directs old new disk after event runs happens = record 
   home = event-right opening directs old new disk after event runs.home happens;
 }
 
--- transactions with these batches are numbered as they are
+-- the transactions of numbered batches are numbered
 pub batches-numbered : (first : ℕ) (ts : History) (bs : List Batch) → AreNumberedFrom first bs → AreBatchesOf ts bs → AreNumbered first ts
 batches-numbered first [] bs numbered are = tt
 batches-numbered first (t ∷ ts) [] numbered are = absurd are
@@ -131,7 +131,7 @@ batches-numbered first (t ∷ ts) (b ∷ bs) numbered are = (sym are.0 ∙ numbe
 abbrev pub running_epoch : Disk → List (ℕ × List ℕ) → Engine → Epoch
 running_epoch opening directs e = record { opening = opening; engine = e; directs = directs; pin = None }
 
--- so each image that a stop may leave keeps what is promised
+-- each crash image keeps the promise
 left-kept : (opening : Disk) (directs : List (ℕ × List ℕ)) (e : Engine) (disk : Disk) (image : Image) → Sound e disk → HomeRight opening directs e disk →
     Leaves disk image → KeepsImage e.shape (running_epoch opening directs e) image
 left-kept opening directs e disk image sound home leaves ts are =

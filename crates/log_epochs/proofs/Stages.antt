@@ -1,4 +1,4 @@
--- What an opening keeps at each stage, over each of its calls, whether it succeeds or fails.
+-- What an opening keeps at each stage, over each call, also failed ones.
 use Rattle.std.proofs.Common.{refl, sym, ◌∙◌, ap, subst, inl, inr, ⊎_elim}
 use Rattle.std.specs.Prelude.{◌≡◌, ◌≢◌, ◌⊎◌, ℕ, List, Option}
 use Rattle.log_model.specs.declared.log.Text.{Text}
@@ -25,19 +25,19 @@ use Rattle.log_epochs.proofs.Homes.{IsWritingHome, copying-fault, copying-flushe
 use Rattle.log_epochs.proofs.Keeping.{IsFlushed, flush-keeps, pin-keeps, pinning-pins, replaying-keeps}
 use Rattle.log_epochs.proofs.Replaying.{durable-one}
 
--- the log is flushed, and home has gained newest copies alone
+-- the log is flushed, and home gained newest copies alone
 pub record IsCopying (shape : Shape) (found : Found) (base : Disk) (epoch : Option Epoch) (disk : Disk) : Type 0 where
   pub has : HasChain shape found.image found.texts
   pub flush : IsFlushed shape found epoch base
   pub writing : IsWritingHome (IsNewest found.texts) base disk
 
--- and it is durable, with each of them
+-- home is durable with all of them
 pub record IsCopied (shape : Shape) (found : Found) (base : Disk) (epoch : Option Epoch) (disk : Disk) : Type 0 where
   pub copying : IsCopying shape found base epoch disk
   pub done : IsHomeDone shape.home_blocks found.texts base disk
   pub replayed : IsReplayed shape.home_blocks found.texts (found.image Home) (reading disk Home)
 
--- and of the log block 0 alone is written
+-- of the log block 0 alone is written
 pub record IsCleaning (shape : Shape) (found : Found) (base : Disk) (epoch : Option Epoch) (disk : Disk) : Type 0 where
   pub has : HasChain shape found.image found.texts
   pub flush : IsFlushed shape found epoch base
@@ -47,18 +47,18 @@ pub record IsCleaning (shape : Shape) (found : Found) (base : Disk) (epoch : Opt
   pub log : (n : ℕ) → n ≢ 0 → disk Log n ≡ base Log n
   pub block_0 : (v : List ℕ) → IsOneOf (held (disk Log 0)) v → IsOneOf (held (base Log 0)) v ⊎ (v ≡ clean_superblock found)
 
--- and that reads as the new superblock
+-- block 0 reads as the new superblock
 pub record IsCleaned (shape : Shape) (found : Found) (base : Disk) (epoch : Option Epoch) (disk : Disk) : Type 0 where
   pub cleaning : IsCleaning shape found base epoch disk
   pub reads : (disk Log 0).reads ≡ clean_superblock found
 
--- what the opening did: in a clean log nothing, else home is replayed and block 0 alone of the log is another
+-- a clean log is untouched; else home is replayed, and only block 0 of the log is new
 pub data IsWhole (shape : Shape) (found : Found) (base disk : Disk) : Type 0 where
   Untouched : IsClean shape found.image → disk ≡ base → IsWhole shape found base disk
   Replayed : HasChain shape found.image found.texts → IsReplaying shape.home_blocks found.texts (clean_superblock found) base disk →
       IsReplayed shape.home_blocks found.texts (found.image Home) (reading disk Home) → IsWhole shape found base disk
 
--- Ok may be answered: the log is opened
+-- the opening may answer Ok: the log is opened
 pub record IsDone (shape : Shape) (found : Found) (base : Disk) (epoch : Option Epoch) (disk : Disk) : Type 0 where
   pub flush : IsFlushed shape found epoch base
   pub keeps : KeepsNow shape epoch disk
@@ -71,7 +71,7 @@ pub record IsRead (shape : Shape) (found : Found) (base : Disk) (epoch : Option 
   pub base_is : base ≡ flushed disk Log
   pub keeps : KeepsNow shape epoch disk
 
--- what an opening keeps at each stage, over the disk as its flush of the log leaves it
+-- the invariant of each stage, over the flushed disk
 abbrev pub StageHolds : Shape → Found → Disk → OpeningStage → Option Epoch → Disk → Type 0
 StageHolds shape found base LogFlush epoch disk = IsRead shape found base epoch disk
 StageHolds shape found base Copies epoch disk = IsCopying shape found base epoch disk
@@ -79,7 +79,7 @@ StageHolds shape found base SuperblockWrite epoch disk = IsCopied shape found ba
 StageHolds shape found base SuperblockFlush epoch disk = IsCleaned shape found base epoch disk
 StageHolds shape found base Done epoch disk = IsDone shape found base epoch disk
 
--- while copies are written
+-- the copies that are written are moments of the replay
 pub copying-replaying : (shape : Shape) (found : Found) (base disk : Disk) → IsWritingHome (IsNewest found.texts) base disk →
     IsReplaying shape.home_blocks found.texts (clean_superblock found) base disk
 copying-replaying shape found base disk is = record {
@@ -91,7 +91,7 @@ copying-replaying shape found base disk is = record {
 copying-keeps : (shape : Shape) (found : Found) (base : Disk) (epoch : Option Epoch) (disk : Disk) → IsFound shape found → IsCopying shape found base epoch disk → KeepsNow shape epoch disk
 copying-keeps shape found base epoch disk is c = replaying-keeps shape found epoch base disk is c.has c.flush (copying-replaying shape found base disk c.writing)
 
--- while the log is cleaned
+-- the cleaning of the log is a moment of the replay
 pub cleaning-replaying : (shape : Shape) (found : Found) (base : Disk) (epoch : Option Epoch) (disk : Disk) → IsCleaning shape found base epoch disk →
     IsReplaying shape.home_blocks found.texts (clean_superblock found) base disk
 cleaning-replaying shape found base epoch disk c = record {
@@ -103,7 +103,7 @@ cleaning-replaying shape found base epoch disk c = record {
 cleaning-keeps : (shape : Shape) (found : Found) (base : Disk) (epoch : Option Epoch) (disk : Disk) → IsFound shape found → IsCleaning shape found base epoch disk → KeepsNow shape epoch disk
 cleaning-keeps shape found base epoch disk is c = replaying-keeps shape found epoch base disk is c.has c.flush (cleaning-replaying shape found base epoch disk c)
 
--- at each stage each image that a stop may leave keeps what the epoch's do
+-- at each stage each crash image keeps the epoch's promise
 pub stage-keeps : (shape : Shape) (found : Found) (base : Disk) (stage : OpeningStage) (epoch : Option Epoch) (disk : Disk) → IsFound shape found →
     StageHolds shape found base stage epoch disk → KeepsNow shape epoch disk
 stage-keeps shape found base LogFlush epoch disk is holds = holds.keeps
@@ -112,7 +112,7 @@ stage-keeps shape found base SuperblockWrite epoch disk is holds = copying-keeps
 stage-keeps shape found base SuperblockFlush epoch disk is holds = cleaning-keeps shape found base epoch disk is holds.cleaning
 stage-keeps shape found base Done epoch disk is holds = holds.keeps
 
--- the flush of the log makes what was read durable
+-- the flush of the log makes durable what was read
 flushed-base : (shape : Shape) (found : Found) (base : Disk) (epoch : Option Epoch) (disk : Disk) → IsRead shape found base epoch disk →
     IsFlushed shape found (pinning epoch (reading disk)) base
 flushed-base shape found base epoch disk is =
@@ -123,7 +123,7 @@ flushed-base shape found base epoch disk is =
       keeps = pin-keeps shape epoch disk is.keeps;
     })
 
--- home that reads as replay makes it is done once it is flushed
+-- a home that reads as the replay makes it is done once flushed
 flushed-done : (shape : Shape) (found : Found) (epoch : Option Epoch) (base disk : Disk) → IsFlushed shape found epoch base →
     IsReplayed shape.home_blocks found.texts (found.image Home) (reading disk Home) → IsHomeDone shape.home_blocks found.texts base (flushed disk Home)
 flushed-done shape found epoch base disk flush replayed b v below one =
@@ -131,7 +131,7 @@ flushed-done shape found epoch base disk flush replayed b v below one =
     ⊎_elim (λ newest. inl (subst (IsNewest found.texts b) (sym is) newest))
     (λ none. inr (none.0, inl (is ∙ none.1 ∙ sym (flush.home b)))) (replayed b below)
 
--- block 0 is written, or its write fails
+-- the write of block 0, also a failed one, leads to the cleaning
 pub cleaning-write : (shape : Shape) (found : Found) (base : Disk) (epoch : Option Epoch) (disk after : Disk) → IsCopied shape found base epoch disk →
     IsWrite disk after 0 (clean_superblock found) → IsCleaning shape found base epoch after
 cleaning-write shape found base epoch disk after c write =
@@ -152,7 +152,7 @@ cleaning-write shape found base epoch disk after c write =
           ⊎_elim (λ new. inr new) (λ was. inl (subst (λ (cell : Cell). IsOneOf (held cell) v) (w.log 0) was)) (write.there v one);
     }
 
--- a log that is flushed keeps its cells, or has what they read
+-- a flushed log keeps its cells, or makes what they read durable
 flushed-replaying : (count : ℕ) (texts : List Text) (superblock : List ℕ) (base disk : Disk) → ((n : ℕ) → n ≢ 0 → disk Log n ≡ base Log n) →
     IsReplaying count texts superblock base disk → IsReplaying count texts superblock base (flushed disk Log)
 flushed-replaying count texts superblock base disk log is = record {
@@ -161,7 +161,7 @@ flushed-replaying count texts superblock base disk log is = record {
   block_0 = λ v one. is.block_0 v (held-read (disk Log 0) v one);
 }
 
--- the new superblock is flushed
+-- the flush of the new superblock ends the opening
 cleaned-done : (shape : Shape) (found : Found) (base : Disk) (epoch : Option Epoch) (disk : Disk) → IsFound shape found → IsCleaned shape found base epoch disk →
     IsDone shape found base epoch (flushed disk Log)
 cleaned-done shape found base epoch disk is c = record {
@@ -207,16 +207,16 @@ call-holds shape found base stage next call epoch disk is WriteSuperblock holds 
 }
 call-holds shape found base stage next call epoch disk is FlushSuperblock holds = cleaned-done shape found base epoch disk is holds
 
--- a flush that failed changed nothing
+-- a failed flush changed nothing
 pub flush-undone : (area : Area) (old new : Disk) → IsAfterFault (Flush area) old new → new ≡ old
 flush-undone area old new (Undone call x y same) = same
 
--- so it keeps what was kept
+-- a failed flush keeps the promise
 pub undone-keeps : (shape : Shape) (epoch : Option Epoch) (area : Area) (disk after : Disk) → IsAfterFault (Flush area) disk after →
     KeepsNow shape epoch disk → KeepsNow shape epoch after
 undone-keeps shape epoch area disk after fault keeps = subst (KeepsNow shape epoch) (sym (flush-undone area disk after fault)) keeps
 
--- each call that fails keeps what is kept
+-- a failed call keeps the promise
 pub fault-keeps : (shape : Shape) (found : Found) (base : Disk) (stage next : OpeningStage) (call : Call) (epoch : Option Epoch) (disk after : Disk) → IsFound shape found →
     OpeningCall shape found disk stage call next → StageHolds shape found base stage epoch disk → IsAfterFault call disk after → KeepsNow shape epoch after
 fault-keeps shape found base stage next call epoch disk after is (FlushClean clean) holds fault = undone-keeps shape epoch Log disk after fault holds.keeps

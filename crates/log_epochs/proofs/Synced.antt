@@ -1,4 +1,4 @@
--- A direct write that was synced stays: no move adds to home what is not that write's bytes, or a later one's.
+-- A synced direct write stays: moves add only its bytes to home, or a later one's.
 use Rattle.std.proofs.Common.{refl, sym, ◌∙◌, ap, subst, inl, inr, ⊎_elim}
 use Rattle.std.specs.Prelude.{◌≡◌, ◌⊎◌, ⊤, ℕ, ◌<◌, List, [], ◌∷◌, ◌++◌, Option, Some, None, Contains}
 use Rattle.std.specs.List.{AllByRecursion}
@@ -44,7 +44,7 @@ use Rattle.log_epochs.proofs.Lives.{Holds, HoldsAt, begin-holds, life-holds, mov
 use Rattle.log_epochs.proofs.Replaying.{IsOpened, opened-by_chain}
 use Rattle.log_epochs.specs.EngineWorld.UpgradeMove.{BeginUpgrade, UpgradeStep, UpgradeFault}
 
--- a block that is left to home stays so over each step that leaves it alone
+-- a block stays left to home over each step that leaves it alone
 event-left : (b : ℕ) (old new : Engine) (disk after : Disk) (event : Event) → LeavesAlone b (Step event) → Happens old disk event new after →
     IsLeftToHome old b → IsLeftToHome new b
 event-left b old new disk after event alone happens left = by (event-onward old new disk after event happens)
@@ -53,13 +53,13 @@ event-left b old new disk after event alone happens left = by (event-onward old 
     by (Taken batch is accepts) = left-taken old new batch b accepts (subst (λ (x : Event). LeavesAlone b (Step x)) is alone) left
     by (Going on) = left-going old new b on left
 
--- a log with texts is not clean
+-- a log with a newest copy is not clean
 newest-chain : (shape : Shape) (image : Image) (texts : List Text) (limit b : ℕ) (u : List ℕ) → HasTexts shape image texts limit → IsNewest texts b u →
     HasChain shape image texts
 newest-chain shape image texts limit b u (NoTexts clean) newest = absurd (none-some newest.live.text newest.live.stands)
 newest-chain shape image texts limit b u (Texts ts has) newest = has
 
--- where the transactions leave a block to home, replay would write there what home reads
+-- a replay would write what home reads, if the transactions leave the block to home
 found-same : (shape : Shape) (found : Found) (epoch : Epoch) (disk : Disk) (b : ℕ) (u : List ℕ) → b < shape.home_blocks → KeepsNow shape (Some epoch) disk →
     HasHistory epoch.engine → IsLeftToHome epoch.engine b → IsFoundOn shape found disk → IsNewest found.texts b u → u ≡ (disk Home b).reads
 found-same shape found epoch disk b u within keeps has left is newest =
@@ -76,7 +76,7 @@ found-same shape found epoch disk b u within keeps has left is newest =
       | inr none ↦ absurd (none.0 newest.i newest.k u newest.live)
     ]
 
--- a direct write of block b hands over what P says
+-- a direct write of block b hands over bytes that satisfy P
 abbrev pub HandsAt : (List ℕ → Type 0) → ℕ → Event → Type 0
 HandsAt P b (DirectWrite c v) = c ≡ b → P v
 HandsAt P b (DirectWriteFault c v) = c ≡ b → P v
@@ -102,7 +102,7 @@ HandsOver P b OpeningFault = ⊤
 HandsOver P b AnswerOk = ⊤
 HandsOver P b (Upgrade move) = ⊤
 
--- so does replay in an opening
+-- a replay writes to block b bytes that satisfy P
 abbrev pub ReplaysAs : (List ℕ → Type 0) → ℕ → Phase → Type 0
 ReplaysAs P b (Opening found stage) = (u : List ℕ) → IsNewest found.texts b u → P u
 ReplaysAs P b Shut = ⊤
@@ -111,19 +111,19 @@ ReplaysAs P b Running = ⊤
 ReplaysAs P b Closing = ⊤
 ReplaysAs P b Closed = ⊤
 
--- block b reads as P says, and nothing that is to come home is of another kind
+-- block b reads as P says, and nothing that may come home violates P
 pub record IsSafe (P : List ℕ → Type 0) (b : ℕ) (w : World) : Type 0 where
   pub within : b < w.shape.home_blocks
   pub reads : P (w.disk Home b).reads
   pub left : OfEngine ⊥ (λ e. IsLeftToHome e b) w.epoch
   pub replays : ReplaysAs P b w.phase
 
--- whatever home holds of it is so
+-- home holds only such bytes of it
 abbrev pub HoldsAs : (List ℕ → Type 0) → ℕ → World → Type 0
 HoldsAs P b w = (u : List ℕ) → IsOneOf (held (w.disk Home b)) u → P u
 
 module _ (P : List ℕ → Type 0) (b : ℕ) where
-  -- what a step of an engine may add to the block is so
+  -- an engine step adds only such bytes to the block
   step-may : (e : Engine) (event : Event) (u : List ℕ) → HandsAt P b event → IsLeftToHome e b → StepMayAdd e event b u → P u
   step-may e (DirectWrite c v) u hands left (free, here, is) = subst P (sym is) (hands (sym here))
   step-may e (DirectWriteFault c v) u hands left (free, here, is) = subst P (sym is) (hands (sym here))
@@ -142,7 +142,7 @@ module _ (P : List ℕ → Type 0) (b : ℕ) where
   engine-may None event u hands left may = absurd may
   engine-may (Some epoch) event u hands left may = step-may epoch.engine event u hands left may
 
-  -- and what an opening may
+  -- an opening adds only such bytes
   opening-may : (phase : Phase) (u : List ℕ) → ReplaysAs P b phase → OpeningMayAdd phase b u → P u
   opening-may (Opening found stage) u replays may = replays u may
   opening-may Shut u replays may = absurd may
@@ -151,7 +151,7 @@ module _ (P : List ℕ → Type 0) (b : ℕ) where
   opening-may Closing u replays may = absurd may
   opening-may Closed u replays may = absurd may
 
-  -- so what a move may that is no stop
+  -- a move that is no crash adds only such bytes
   move-may : (w : World) (move : Move) (u : List ℕ) → IsNoStop move → HandsOver P b move → IsSafe P b w → MayAdd w move b u → P u
   move-may w (Step event) u goes hands safe may = engine-may w.epoch event u hands safe.left may
   move-may w OpeningStep u goes hands safe may = opening-may w.phase u safe.replays may
@@ -164,7 +164,7 @@ module _ (P : List ℕ → Type 0) (b : ℕ) where
   move-may w AnswerOk u goes hands safe may = absurd may
   move-may w (Upgrade move) u goes hands safe may = absurd may
 
-  -- what may come home in an opening that has just begun
+  -- a new opening replays only such bytes
   begin-replays : (epoch : Option Epoch) (shape : Shape) (found : Found) (disk : Disk) → b < shape.home_blocks → P (disk Home b).reads →
       KeepsNow shape epoch disk → OfEngine ⊤ HasHistory epoch → OfEngine ⊥ (λ e. IsLeftToHome e b) epoch → IsFoundOn shape found disk →
       (u : List ℕ) → IsNewest found.texts b u → P u
@@ -172,7 +172,7 @@ module _ (P : List ℕ → Type 0) (b : ℕ) where
   begin-replays (Some epoch) shape found disk within reads keeps history left is u newest =
       subst P (sym (found-same shape found epoch disk b u within keeps history left is newest)) reads
 
-  -- and in each phase that a move leads to
+  -- each phase replays only such bytes
   move-replays : (w new : World) (move : Move) → Holds w → OfEngine ⊤ HasHistory w.epoch → IsSafe P b w → Moves w move new → ReplaysAs P b new.phase
   move-replays w new (Step event) holds history safe moves =
       subst (λ (x : World). ReplaysAs P b x.phase) (sym moves.after) (subst (ReplaysAs P b) (sym moves.running) tt)
@@ -195,7 +195,7 @@ module _ (P : List ℕ → Type 0) (b : ℕ) where
   move-replays w new (Upgrade UpgradeFault) holds history safe moves = subst (λ (x : World). ReplaysAs P b x.phase) (sym moves.after) tt
   move-replays w new AnswerOk holds history safe moves = subst (λ (x : World). ReplaysAs P b x.phase) (sym moves.after) tt
 
-  -- a move keeps the block safe where it still reads so
+  -- a move keeps the block safe, if it still reads so
   move-safe : (w new : World) (move : Move) → Holds w → OfEngine ⊤ HasHistory w.epoch → LeavesAlone b move → IsSafe P b w → Moves w move new →
       P (new.disk Home b).reads → IsSafe P b new
   move-safe w new move holds history alone safe moves reads = record {
@@ -208,7 +208,7 @@ module _ (P : List ℕ → Type 0) (b : ℕ) where
     replays = move-replays w new move holds history safe moves;
   }
 
-  -- what it reads after a move that is no stop
+  -- the block reads so after a move that is no crash
   move-reads : (w new : World) (move : Move) → IsNoStop move → HandsOver P b move → IsSafe P b w → Moves w move new → P (new.disk Home b).reads
   move-reads w new move goes hands safe moves =
       ⊎_elim
@@ -216,7 +216,7 @@ module _ (P : List ℕ → Type 0) (b : ℕ) where
       (λ may. move-may w move (new.disk Home b).reads goes hands safe may)
       ((move-home w move new moves).reads b)
 
-  -- what it holds after any
+  -- the block holds only such bytes after any move
   move-held : (w new : World) (move : Move) → HandsOver P b move → IsSafe P b w → HoldsAs P b w → Moves w move new → HoldsAs P b new
   move-held w new move hands safe has moves u one =
       ⊎_elim (λ was. has u was) (λ may. held-may move hands may) ((move-home w move new moves).left b u one)
@@ -246,19 +246,19 @@ module _ (P : List ℕ → Type 0) (b : ℕ) where
     safe = move-safe old new move carries.holds carries.history alone carries.safe moves reads;
   }
 
-  -- a move that is no stop keeps the block safe
+  -- a move that is no crash keeps the block safe
   pub on-safe : (old new : World) (move : Move) → HandsOver P b move → IsNoStop move → LeavesAlone b move → Moves old move new → Carries old → Carries new
   on-safe old new move hands goes alone moves carries =
       carries-on old new move alone moves carries (move-reads old new move goes hands carries.safe moves)
 
-  -- and any move does, where home holds nothing else of it
+  -- any move does, if home holds nothing else of the block
   pub on-held : (old new : World) (move : Move) → HandsOver P b move → LeavesAlone b move → Moves old move new → Carries old × HoldsAs P b old →
       Carries new × HoldsAs P b new
   on-held old new move hands alone moves (carries, has) =
       let now : HoldsAs P b new = move-held old new move hands carries.safe has moves in
       (carries-on old new move alone moves carries (now (new.disk Home b).reads (inl refl)), now)
 
-  -- so do moves that follow one another
+  -- so does a sequence of moves
   run-safe : (old new : World) (moves : List Move) → ((move : Move) → Contains moves move → HandsOver P b move) → AllByRecursion IsNoStop moves →
       AllByRecursion (LeavesAlone b) moves → Leads old moves new → Carries old → Carries new
   run-safe old new [] hands goes alone same carries = subst Carries (sym same) carries
@@ -273,7 +273,7 @@ module _ (P : List ℕ → Type 0) (b : ℕ) where
       run-held mid new moves (λ m among. hands m (contains-behind move moves m among)) alone.1 rest
       (on-held old mid move (hands move (contains-first move moves move refl)) alone.0 first has)
 
--- of the elements of two lists, those of either
+-- a fact of a joined list holds of both parts
 split-all : (Q : Move → Type 0) (xs ys : List Move) → AllByRecursion Q (xs ++ ys) → AllByRecursion Q xs × AllByRecursion Q ys
 split-all Q [] ys all = (tt, all)
 split-all Q (x ∷ xs) ys all = let rest = split-all Q xs ys all.1 in ((all.0, rest.0), rest.1)
@@ -308,7 +308,7 @@ handed-among since moves b v within OpeningFault among = tt
 handed-among since moves b v within AnswerOk among = tt
 handed-among since moves b v within (Upgrade move) among = tt
 
--- behind a direct write the block is safe
+-- after a direct write the block is safe
 pub written-safe : (P : List ℕ → Type 0) (b : ℕ) (v : List ℕ) (w new : World) → Holds w → OfEngine ⊤ HasHistory w.epoch → Moves w (Step (DirectWrite b v)) new →
     P v → Carries P b new
 written-safe P b v w new holds history moves is =
@@ -330,7 +330,7 @@ written-safe P b v w new holds history moves is =
       };
     }
 
--- behind a flush of home it holds what it read
+-- after a flush of home it holds what it read
 pub synced-held : (P : List ℕ → Type 0) (b : ℕ) (w new : World) → IsSafe P b w → Moves w (Step DirectSync) new → HoldsAs P b new
 synced-held P b w new safe moves u one =
     only (subst (λ (d : Disk). IsOneOf (held (d Home b)) u) moves.happens.disk_is one)
@@ -339,7 +339,7 @@ synced-held P b w new safe moves u one =
     only (inl is) = subst P (sym is) safe.reads
     only (inr none) = absurd none
 
--- what home holds, an engine that runs reads
+-- a running engine reads what home holds
 pub safe-reads : (P : List ℕ → Type 0) (b : ℕ) (w : World) (epoch : Epoch) (u : List ℕ) → IsSafe P b w → w.epoch ≡ Some epoch → IsRead epoch.engine w.disk b u → P u
 safe-reads P b w epoch u safe now read =
     let left : IsLeftToHome epoch.engine b = now-engine ⊥ (λ e. IsLeftToHome e b) w.epoch epoch now safe.left in

@@ -1,4 +1,4 @@
--- Each moment of an upgrade.
+-- What holds at each moment of an upgrade.
 use Rattle.std.proofs.Common.{refl, sym, ◌∙◌, ap, subst, arith, inl, inr, ⊎_elim}
 use Rattle.std.specs.Prelude.{◌≡◌, ◌≢◌, ◌⊎◌, ℕ, ◌==◌, true, false, List, None}
 use Rattle.std.proofs.lemmas.Bool.{cases_eq}
@@ -25,14 +25,14 @@ use Rattle.log_epochs.proofs.Homes.{held-read}
 use Rattle.log_epochs.proofs.Stages.{flush-undone}
 use Rattle.log_epochs.proofs.Upgrading.{IsWidened, is-widened, narrow_image, opens-widened, with_first}
 
--- what of the log is written, and of home nothing
+-- of the log only block 0 is written, and of home nothing
 record IsWriting (block : List ℕ) (old disk : Disk) : Type 0 where
   home : (b : ℕ) → disk Home b ≡ old Home b
   log : (n : ℕ) → n ≢ 0 → disk Log n ≡ flushed old Log Log n
   block_0 : (v : List ℕ) → IsOneOf (held (disk Log 0)) v → (v ≡ block) ⊎ (v ≡ widened block)
 
 module _ (shape : Shape) (block : List ℕ) (old disk : Disk) (on : IsUpgradableOn shape block old) (is : IsWriting block old disk) (image : Image) (leaves : Leaves disk image) where
-  -- the image with the old superblock might be left at the flush
+  -- the image with the old superblock is a crash image of the flush
   each-before : (first : List ℕ) → first ≡ block → (a : Area) (n : ℕ) → IsOneOf (held (flushed old Log a n)) (with_first image first a n)
   unfolding with_first
   each-before first same Log n = elim (cases_eq n 0) [
@@ -45,7 +45,7 @@ module _ (shape : Shape) (block : List ℕ) (old disk : Disk) (on : IsUpgradable
   ]
   each-before first same Home b = subst (λ (c : Cell). IsOneOf (held c) (image Home b)) (is.home b) (leaves.each Home b)
 
-  -- and where the image has it, so it might
+  -- so is an image that has the old superblock
   same-before : image Log 0 ≡ block → (a : Area) (n : ℕ) → IsOneOf (held (flushed old Log a n)) (image a n)
   same-before same Log n = elim (cases_eq n 0) [
     | inl zero ↦ inl (ap (image Log) zero ∙ same ∙ sym on.read ∙ ap (λ (k : ℕ). (old Log k).reads) (sym zero))
@@ -64,7 +64,7 @@ module _ (shape : Shape) (block : List ℕ) (old disk : Disk) (on : IsUpgradable
       record { got = opened.got; opens = opens-widened shape block on.may image new opened.got opened.opens; recovered = opened.recovered })
       (is.block_0 (image Log 0) (leaves.each Log 0))
 
-  -- and has the same limit
+  -- it has the same limit
   limit-of : (first : List ℕ) → image Log 0 ≡ first → super_refusal shape first ≡ None → (super_in first).s_start ≡ 0 →
       HasLimit shape image (super_in first).s_sequence
   limit-of first same accepted clean =
@@ -88,7 +88,7 @@ past shape block old disk on is = record {
   block_0 = is.block_0;
 }
 
--- the flush alone
+-- the flush alone is such a moment
 flushed-writing : (shape : Shape) (block : List ℕ) (old : Disk) → IsUpgradableOn shape block old → IsWriting block old (flushed old Log)
 flushed-writing shape block old on = record {
   home = λ b. refl;
@@ -96,7 +96,7 @@ flushed-writing shape block old on = record {
   block_0 = λ v one. inl (⊎_elim (λ same. same ∙ on.read) (λ none. absurd none) one);
 }
 
--- and a write of the superblock
+-- the write of the superblock is such a moment
 write-writing : (block : List ℕ) (old disk after : Disk) → IsWriting block old disk → IsWrite disk after 0 (widened block) → IsWriting block old after
 write-writing block old disk after is write = record {
   home = λ b. write.home.same b ∙ is.home b;
@@ -104,7 +104,7 @@ write-writing block old disk after is write = record {
   block_0 = λ v one. ⊎_elim (λ new. inr new) (λ was. is.block_0 v was) (write.there v one);
 }
 
--- and the flush behind it
+-- its flush is such a moment
 flush-writing : (block : List ℕ) (old disk : Disk) → IsWriting block old disk → IsWriting block old (flushed disk Log)
 flush-writing block old disk is = record {
   home = is.home;
@@ -112,7 +112,7 @@ flush-writing block old disk is = record {
   block_0 = λ v one. is.block_0 v (held-read (disk Log 0) v one);
 }
 
--- a stage behind the flush
+-- the invariant of each stage after the flush
 abbrev StageWrites : List ℕ → Disk → UpgradeStage → Disk → Type 0
 StageWrites block old LogFlush disk = disk ≡ old
 StageWrites block old SuperblockWrite disk = IsWriting block old disk
@@ -146,7 +146,7 @@ fault-keeps shape block old disk after stage next call on WriteSuperblock is fau
 fault-keeps shape block old disk after stage next call on FlushSuperblock is fault =
     subst (KeepsNumber shape old) (sym (flush-undone Log disk after fault)) (Past block on (past shape block old disk on is))
 
--- at each moment nothing is written, or the log was flushed and each image opens as before
+-- at each moment nothing is written, or each image opens as before
 pub upgrade-moment-keeps : (shape : Shape) (old disk : Disk) → IsUpgradeMoment shape old disk → KeepsNumber shape old disk
 upgrade-moment-keeps shape old disk (Unread same) = Unwritten same
 upgrade-moment-keeps shape old disk (At block stage on reached) = at-keeps shape block old stage disk on (reached-writes shape block old stage disk on reached)

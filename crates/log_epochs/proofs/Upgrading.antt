@@ -1,5 +1,4 @@
--- What an upgrade keeps at each of its stages: the log stays clean, of the same ring and with the same number, so that each image
--- opens as it did.
+-- At each stage of an upgrade the log is clean, with the same ring and number, so images open as before.
 use Rattle.std.proofs.Common.{refl, sym, ◌∙◌, ap, ap₂, subst, arith, inl, inr, ⊎_elim}
 use Rattle.std.specs.Prelude.{◌≡◌, ℕ, ◌+◌, ◌-◌, ◌<◌, ◌≤◌, ◌==◌, true, false, if◌then◌else◌, List, length, Option, Some, None}
 use Rattle.std.proofs.lemmas.Bool.{cases_eq}
@@ -53,7 +52,7 @@ with_first image v Log n = if n == 0 then v else image Log n
 with_first image v Home b = image Home b
 
 module _ (shape : Shape) (block : List ℕ) (may : IsUpgradable shape block) (image : Image) (is : image Log 0 ≡ widened block) where
-  -- the image before
+  -- the image with the old superblock
   abbrev pub narrow_image : Image
   narrow_image = with_first image block
 
@@ -78,7 +77,7 @@ module _ (shape : Shape) (block : List ℕ) (may : IsUpgradable shape block) (im
         above = subst (λ (b : List ℕ). (super_in block).s_sequence < sequence_in b) (sym other) (subst (λ (s : ℕ). s < sequence_in (image Log place)) sequence ahead.above);
       })
 
-  -- so it opens as it did
+  -- it opens as before
   pub opens-widened : (got : Volume) → OpensAs shape narrow_image got → OpensAs shape image got
   unfolding with_first
   opens-widened got (Clean clean none same) =
@@ -102,7 +101,7 @@ pub record IsUpgradeRead (shape : Shape) (block : List ℕ) (epoch : Option Epoc
   pub reads : (disk Log 0).reads ≡ block
   pub keeps : KeepsNow shape epoch disk
 
--- what an upgrade keeps at each stage
+-- the invariant of each stage
 abbrev pub UpgradeHolds : Shape → List ℕ → UpgradeStage → Option Epoch → Disk → Type 0
 UpgradeHolds shape block LogFlush epoch disk = IsUpgradeRead shape block epoch disk
 UpgradeHolds shape block SuperblockWrite epoch disk = IsUpgradeReady shape block epoch disk
@@ -117,7 +116,7 @@ upgrade-keeps shape block SuperblockFlush epoch disk holds = holds
 upgrade-keeps shape block Done epoch disk holds = holds
 
 module _ (shape : Shape) (block : List ℕ) (epoch : Epoch) (disk after : Disk) (image : Image) (ready : IsUpgradeReady shape block (Some epoch) disk) (write : IsWrite disk after 0 (widened block)) (leaves : Leaves after image) where
-  -- an image with the old superblock was left before
+  -- an image with the old superblock was a crash image before
   left-before : IsOneOf (held (disk Log 0)) (image Log 0) → Leaves disk image
   left-before was = record { each = each }
     where
@@ -128,7 +127,7 @@ module _ (shape : Shape) (block : List ℕ) (epoch : Epoch) (disk after : Disk) 
       ]
       each Home b = subst (λ (c : Cell). IsOneOf (held c) (image Home b)) (write.home.same b) (leaves.each Home b)
 
-  -- and so was one with the new superblock, with the old in its place
+  -- so was one with the new superblock replaced by the old one
   narrow-left : (is : image Log 0 ≡ widened block) → Leaves disk (narrow_image shape block ready.may image is)
   unfolding with_first
   narrow-left is = record { each = each }
@@ -144,7 +143,7 @@ module _ (shape : Shape) (block : List ℕ) (epoch : Epoch) (disk after : Disk) 
       ]
       each Home b = subst (λ (c : Cell). IsOneOf (held c) (image Home b)) (write.home.same b) (leaves.each Home b)
 
-  -- what that keeps, this one keeps
+  -- an image keeps what that one keeps
   widened-kept : (is : image Log 0 ≡ widened block) (ts : History) → Kept shape epoch ts (narrow_image shape block ready.may image is) → Kept shape epoch ts image
   unfolding with_first
   widened-kept is ts kept = record {
@@ -157,7 +156,7 @@ module _ (shape : Shape) (block : List ℕ) (epoch : Epoch) (disk after : Disk) 
     numbered = kept.numbered;
   }
 
--- the superblock is written, or its write fails
+-- the write of the superblock, also a failed one, keeps the promise
 pub widened-keeps : (shape : Shape) (block : List ℕ) (epoch : Option Epoch) (disk after : Disk) → IsUpgradeReady shape block epoch disk →
     IsWrite disk after 0 (widened block) → KeepsNow shape epoch after
 widened-keeps shape block None disk after ready write = tt
@@ -182,7 +181,7 @@ upgrade-call shape block stage next call epoch disk WriteSuperblock holds =
     widened-keeps shape block epoch disk (written disk Log 0 (widened block)) holds (is_write-written disk 0 (widened block))
 upgrade-call shape block stage next call epoch disk FlushSuperblock holds = flush-keeps shape epoch disk Log holds
 
--- each that fails keeps what is kept
+-- a failed call keeps the promise
 pub upgrade-fault : (shape : Shape) (block : List ℕ) (stage next : UpgradeStage) (call : Call) (epoch : Option Epoch) (disk after : Disk) →
     UpgradeCall block stage call next → UpgradeHolds shape block stage epoch disk → IsAfterFault call disk after → KeepsNow shape epoch after
 upgrade-fault shape block stage next call epoch disk after FlushLog holds fault = undone-keeps shape epoch Log disk after fault holds.keeps

@@ -1,4 +1,4 @@
--- A whole opening by the machine's calls is an opening as the journal's definitions say, and keeps what every image opens to.
+-- The machine's calls to the end are an opening, and keep what every image opens to.
 use Rattle.std.proofs.Common.{refl, sym, ◌∙◌, ap, subst, ⊎_elim}
 use Rattle.std.specs.Prelude.{◌≡◌, ◌≢◌, ℕ, List, Option, None}
 use Rattle.log_model.specs.declared.log.Text.{Text}
@@ -21,7 +21,7 @@ use Rattle.log_epochs.proofs.Replaying.{opens-replaying}
 use Rattle.log_epochs.proofs.Stages.{IsDone, IsWhole, StageHolds, call-holds}
 use Rattle.log_epochs.proofs.Stages.IsWhole.{Untouched as WasClean, Replayed as WasReplayed}
 
--- where no history is known there is no pin
+-- without an epoch there is no pin
 none-pinned : (stage : OpeningStage) (image : Image) → pinning_at stage None image ≡ None
 none-pinned LogFlush image = refl
 none-pinned Copies image = refl
@@ -29,7 +29,7 @@ none-pinned SuperblockWrite image = refl
 none-pinned SuperblockFlush image = refl
 none-pinned Done image = refl
 
--- what holds at a stage, with no history
+-- the invariant of each reached stage, without an epoch
 pub reached-holds : (shape : Shape) (found : Found) (old : Disk) (stage : OpeningStage) (disk : Disk) → IsFoundOn shape found old → Reached shape found old stage disk →
     StageHolds shape found (flushed old Log) stage None disk
 reached-holds shape found old stage disk is Tested = record { read = is.read; base_is = refl; keeps = tt }
@@ -39,19 +39,19 @@ reached-holds shape found old stage disk is (Called before next call mid new rea
     (subst (λ (o : Option Epoch). StageHolds shape found (flushed old Log) next o (after_success call mid)) (none-pinned before (reading mid))
     (call-holds shape found (flushed old Log) before next call None mid is.good due holds))
 
--- the limit of what was found
+-- what was found has the image's limit
 finds-limit : (shape : Shape) (image : Image) (texts : List Text) (limit : ℕ) → HasTexts shape image texts limit → HasLimit shape image limit
 finds-limit shape image texts limit (NoTexts clean) = OfClean clean
 finds-limit shape image texts limit (Texts ts has) = OfChain ts has
 
--- whatever every image opened to when the log was flushed, every image opens to
+-- every image opens to what all images opened to at the flush
 pub whole-keeps : (shape : Shape) (found : Found) (base disk : Disk) → IsFound shape found → IsFlushed shape found None base → IsWhole shape found base disk →
     KeepsOpening shape base disk
 whole-keeps shape found base disk is flush (WasClean clean same) = subst (KeepsOpening shape base) (sym same) (record { keeps = λ ts n always. always })
 whole-keeps shape found base disk is flush (WasReplayed has replaying replayed) =
     opens-replaying shape found.texts (clean_superblock found) found.image base disk (ready shape found None base is has flush) replaying
 
--- what it makes of home
+-- home is as the replay makes it
 whole-opens : (shape : Shape) (found : Found) (base disk : Disk) → IsFound shape found → IsFlushed shape found None base → IsWhole shape found base disk →
     OpensAs shape found.image (reading disk Home)
 whole-opens shape found base disk is flush (WasClean clean same) =
@@ -60,7 +60,7 @@ whole-opens shape found base disk is flush (WasClean clean same) =
 whole-opens shape found base disk is flush (WasReplayed has replaying replayed) =
     Replayed found.texts has (subst (NothingAhead found.image) (found-chain shape found.image found.texts found.limit is.has has) is.none_ahead) replayed
 
--- and of the log's other blocks
+-- the log's other blocks are as the flush left them
 whole-others : (shape : Shape) (found : Found) (old disk : Disk) → IsWhole shape found (flushed old Log) disk → (n : ℕ) → n ≢ 0 → disk Log n ≡ flushed old Log Log n
 whole-others shape found old disk (WasClean clean same) n other = ap (λ (d : Disk). d Log n) same
 whole-others shape found old disk (WasReplayed has replaying replayed) n other =
@@ -71,7 +71,7 @@ whole-clean : (shape : Shape) (found : Found) (base disk : Disk) → IsWhole sha
 whole-clean shape found base disk (WasClean clean same) start = same
 whole-clean shape found base disk (WasReplayed has replaying replayed) start = absurd (has.started.started start)
 
--- calls that lead to the end are an opening
+-- the calls to the end are an opening
 pub reached-opening : (shape : Shape) (found : Found) (old new : Disk) → IsFoundOn shape found old → Reached shape found old Done new →
     IsOpening shape old new (cleaned (found.image Log 0) (next_of found)) (next_of found)
 reached-opening shape found old new is reached =

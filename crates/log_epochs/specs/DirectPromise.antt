@@ -1,4 +1,4 @@
--- What a direct write that was synced keeps: no stop takes it back, and nothing older comes back over it.
+-- What a synced direct write keeps: it survives every crash, and nothing older replaces it.
 use Rattle.std.specs.Prelude.{◌≡◌, ◌⊎◌, ⊤, ℕ, List, ◌++◌, Some, map, Contains}
 use Rattle.std.specs.List.{AllByRecursion}
 use Rattle.journal_model.specs.declared.number.Area.TheVariants.{Home}
@@ -10,7 +10,6 @@ use Rattle.log_epochs.specs.EngineWorld.Move.{Step, CloseStep, CloseFault, GiveU
 use Rattle.log_epochs.specs.EngineWorld.Phase.{Running}
 use Rattle.log_epochs.specs.Epoch.{Epoch}
 
--- the move is no stop
 abbrev pub IsNoStop : Move → Type 0
 IsNoStop (Stop left) = ⊥
 IsNoStop (Step event) = ⊤
@@ -23,7 +22,7 @@ IsNoStop OpeningFault = ⊤
 IsNoStop AnswerOk = ⊤
 IsNoStop (Upgrade move) = ⊤
 
--- the move hands over no transaction that has an entry of the block
+-- the move hands over no transaction with an entry of the block
 abbrev pub LeavesAlone : ℕ → Move → Type 0
 LeavesAlone b (Step (Accept batch)) = Contains (map (λ p. p.0) batch.entries) b → ⊥
 LeavesAlone b (Step (Read block bytes)) = ⊤
@@ -46,8 +45,8 @@ LeavesAlone b OpeningFault = ⊤
 LeavesAlone b AnswerOk = ⊤
 LeavesAlone b (Upgrade move) = ⊤
 
--- Block b is written directly as v, and then home is synced, with no stop between. Before it and behind it anything may
--- come. No transaction that is handed over since that write has an entry of the block.
+-- Block b is written directly as v, and home is then synced, without a crash between. Other moves may come before,
+-- between and after, but no transaction accepted since the write has an entry of the block.
 pub record IsSynced (start : World) (b : ℕ) (v : List ℕ) (end : World) : Type 0 where
   pub before : List Move
   pub between : List Move
@@ -64,21 +63,18 @@ pub record IsSynced (start : World) (b : ℕ) (v : List ℕ) (end : World) : Typ
   pub unstopped : AllByRecursion IsNoStop between
   pub alone : AllByRecursion (LeavesAlone b) (between ++ behind)
 
--- the moves since that write
 abbrev pub since_write : (start : World) (b : ℕ) (v : List ℕ) (end : World) → IsSynced start b v end → List Move
 since_write start b v end run = run.between ++ run.behind
 
--- a direct write among these moves hands these bytes over to the block, and perhaps fails
+-- a direct write among the moves hands over these bytes, and may fail
 pub data IsHandedOver (moves : List Move) (b : ℕ) (v : List ℕ) : Type 0 where
   Succeeded : Contains moves (Step (DirectWrite b v)) → IsHandedOver moves b v
   Failed : Contains moves (Step (DirectWriteFault b v)) → IsHandedOver moves b v
 
--- the bytes of that write, or of one since then
 abbrev pub IsThatOrLater : List Move → ℕ → List ℕ → List ℕ → Type 0
 IsThatOrLater since b v w = (w ≡ v) ⊎ IsHandedOver since b w
 
--- Home holds nothing else of the block, so that whatever a stop leaves it is one of these; and that is what an engine that
--- runs reads of it.
+-- Home holds, and a running engine reads, only such bytes of the block; so each crash image has them.
 pub record KeepsDirect (since : List Move) (b : ℕ) (v : List ℕ) (w : World) : Type 0 where
   pub holds : (u : List ℕ) → IsOneOf (held (w.disk Home b)) u → IsThatOrLater since b v u
   pub reads : (epoch : Epoch) (u : List ℕ) → w.phase ≡ Running → w.epoch ≡ Some epoch → IsRead epoch.engine w.disk b u → IsThatOrLater since b v u

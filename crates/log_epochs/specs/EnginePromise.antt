@@ -18,10 +18,9 @@ use Rattle.log_epochs.specs.EngineWorld.{Move, Moves, Phase, World}
 use Rattle.log_epochs.specs.EngineWorld.Move.{Step, CloseStep, CloseFault, GiveUp, Stop, Begin, OpeningStep, OpeningFault, AnswerOk, Upgrade}
 use Rattle.log_epochs.specs.EngineWorld.Phase.{Shut, Opening, Upgrading, Running, Closing, Closed}
 
--- What an image keeps, over transactions whose entries the epoch's batches are. It opens to a number n, from the committed
--- to the accepted ones. That is the count of what the log of the image that pinned it has, and of its own where none has.
--- The blocks that the first n leave to home are rightly held, by direct writes among others, and the numbers follow one
--- another.
+-- What an image keeps, for transactions with the epoch's batches. It opens to a number n from the committed to the accepted
+-- ones, their count by the log of the pin (of the image, if there is no pin). The blocks that the first n leave to home have
+-- permitted values, and numbers follow one another.
 pub record Kept (shape : Shape) (epoch : Epoch) (ts : History) (image : Image) : Type 0 where
   pub n : ℕ
   pub low : epoch.engine.committed ≤ n
@@ -34,27 +33,25 @@ pub record Kept (shape : Shape) (epoch : Epoch) (ts : History) (image : Image) :
 abbrev pub KeepsImage : Shape → Epoch → Image → Type 0
 KeepsImage shape epoch image = (ts : History) → AreBatchesOf ts epoch.engine.accepted → Kept shape epoch ts image
 
--- each image that a stop may leave keeps it; before the first opening that answers Ok nothing is promised
+-- nothing is promised before the first opening that answers Ok
 abbrev pub KeepsNow : Shape → Option Epoch → Disk → Type 0
 KeepsNow shape None disk = ⊤
 KeepsNow shape (Some epoch) disk = (image : Image) → Leaves disk image → KeepsImage shape epoch image
 
--- An epoch ended with a disk of which every image that a stop may leave has a clean log and keeps it, so that home is as its
--- first n transactions make it.
+-- Every crash image of the disk that an epoch ended with is clean and keeps the epoch's promise.
 pub record EndedWell (shape : Shape) (x : Ended) : Type 0 where
   pub pin : Image
   pub pin_is : x.epoch.pin ≡ Some pin
   pub clean : (image : Image) → Leaves x.after image → IsClean shape image
   pub keeps : (image : Image) → Leaves x.after image → KeepsImage shape x.epoch image
 
--- each epoch began on the disk with which the one before it ended
+-- each epoch began on the disk that the one before ended with
 abbrev pub Continues : Option Epoch → List Ended → Type 0
 Continues None [] = ⊤
 Continues (Some epoch) [] = ⊤
 Continues None (x ∷ xs) = ⊥
 Continues (Some epoch) (x ∷ xs) = (x.after ≡ epoch.opening) × Continues (Some x.epoch) xs
 
--- a closed log is clean, and opens to all transactions
 pub record IsClosed (shape : Shape) (epoch : Epoch) (image : Image) : Type 0 where
   pub clean : IsClean shape image
   pub all : (ts : History) → AreBatchesOf ts epoch.engine.accepted → Opens shape ts (length epoch.engine.accepted) image
@@ -68,8 +65,7 @@ KeepsClosed shape epoch disk (Upgrading block stage) = ⊤
 KeepsClosed shape epoch disk Running = ⊤
 KeepsClosed shape epoch disk Closing = ⊤
 
--- what a step of an engine may add to home: a direct write its bytes, where the block is left to home; any other step the
--- newest committed copy of the block
+-- what a step may add to home: a direct write its bytes, if the block is left to home; a round the newest committed copy
 abbrev pub StepMayAdd : Engine → Event → Addition
 StepMayAdd e (DirectWrite block bytes) b v = IsAddedDirectly e block bytes b v
 StepMayAdd e (DirectWriteFault block bytes) b v = IsAddedDirectly e block bytes b v
@@ -87,7 +83,7 @@ abbrev pub EngineMayAdd : Option Epoch → Event → Addition
 EngineMayAdd None event b v = ⊥
 EngineMayAdd (Some epoch) event b v = StepMayAdd epoch.engine event b v
 
--- an opening may add the newest live copy of its chain
+-- an opening may add newest live copies of its chain
 abbrev pub OpeningMayAdd : Phase → Addition
 OpeningMayAdd (Opening found stage) b v = IsNewest found.texts b v
 OpeningMayAdd Shut b v = ⊥
@@ -96,7 +92,7 @@ OpeningMayAdd Running b v = ⊥
 OpeningMayAdd Closing b v = ⊥
 OpeningMayAdd Closed b v = ⊥
 
--- what a move may add; a stop leaves one of the values that were held
+-- a crash leaves one of the values held
 abbrev pub MayAdd : World → Move → Addition
 MayAdd w (Step event) b v = EngineMayAdd w.epoch event b v
 MayAdd w OpeningStep b v = OpeningMayAdd w.phase b v
@@ -109,8 +105,8 @@ MayAdd w (Begin found) b v = ⊥
 MayAdd w AnswerOk b v = ⊥
 MayAdd w (Upgrade move) b v = ⊥
 
--- Each epoch keeps its promise: the one of now whatever a stop leaves at this moment, those that ended whatever one left
--- then. Whatever move comes next adds to home nothing but what it may.
+-- Each epoch keeps its promise: the current one in every crash image of now, an ended one in every crash image of its end.
+-- The next move adds to home only what it may.
 pub record KeepsPromise (w : World) : Type 0 where
   pub now : KeepsNow w.shape w.epoch w.disk
   pub ended : AllByRecursion (EndedWell w.shape) w.ended

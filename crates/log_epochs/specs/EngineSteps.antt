@@ -1,5 +1,6 @@
--- The steps of an engine beside its disk, and the closing of its log, which is two calls. Source: journal.rst,
--- fs/jbd2/journal.c by behaviour (the superblock of a journal that is destroyed says that the log is clean).
+-- Which steps an engine makes beside its disk, and which two calls close its log.
+-- Source: journal.rst, fs/jbd2/journal.c by behaviour (the superblock of a journal that is destroyed says that
+-- the log is clean).
 use Rattle.std.specs.Prelude.{◌≡◌, ℕ, ◌+◌, true, false, List, ◌∷◌}
 use Rattle.journal_model.specs.declared.entry.Batch.{Batch}
 use Rattle.journal_model.specs.declared.number.Area.TheVariants.{Home}
@@ -24,25 +25,23 @@ pub data Event : Type 0 where
   DirectSync : Event
   DirectSyncFault : Event
 
--- the engine takes a batch
 pub record Takes (old : Engine) (disk : Disk) (b : Batch) (new : Engine) (after : Disk) : Type 0 where
   pub engine : Accepts old b new
   pub disk_is : after ≡ disk
 
--- a read of a block hands out these bytes, and changes nothing
 pub record Reads (old : Engine) (disk : Disk) (b : ℕ) (v : List ℕ) (new : Engine) (after : Disk) : Type 0 where
   pub running : old.aborted ≡ false
   pub gives : IsRead old disk b v
   pub engine : new ≡ old
   pub disk_is : after ≡ disk
 
--- a read of home fails: the engine is aborted
+-- a failed read of home aborts the engine
 pub record ReadFails (old : Engine) (disk : Disk) (new : Engine) (after : Disk) : Type 0 where
   pub running : old.aborted ≡ false
   pub engine : new ≡ record old { aborted = true }
   pub disk_is : after ≡ disk
 
--- what each event does
+-- the step of each event
 abbrev pub Happens : Engine → Disk → Event → Engine → Disk → Type 0
 Happens old disk (Accept b) new after = Takes old disk b new after
 Happens old disk (Read b v) new after = Reads old disk b v new after
@@ -56,7 +55,7 @@ Happens old disk (DirectWriteFault b v) new after = DirectFaults old disk (Write
 Happens old disk DirectSync new after = DirectSteps old disk (Flush Home) new after
 Happens old disk DirectSyncFault new after = DirectFaults old disk (Flush Home) new after
 
--- the direct writes since an opening, newest first, once this has happened: one that failed may be left as well
+-- direct writes since the opening, newest first, failed ones too
 abbrev pub with_directs : Event → List (ℕ × List ℕ) → List (ℕ × List ℕ)
 with_directs (DirectWrite b v) directs = (b, v) ∷ directs
 with_directs (DirectWriteFault b v) directs = (b, v) ∷ directs
@@ -70,13 +69,13 @@ with_directs CheckpointStep directs = directs
 with_directs CheckpointFault directs = directs
 with_directs ReadFault directs = directs
 
--- the log may be closed: all is committed and released, and it is not clean yet
+-- all is committed and released, and the log is not clean
 pub record MayClose (e : Engine) : Type 0 where
   pub running : e.aborted ≡ false
   pub started : e.started ≡ true
   pub idle : e.stage ≡ Idle
   pub released : e.released ≡ e.committed
 
--- the superblock of the clean log that a close leaves: it names the next transaction
+-- clean, with the number of the next transaction
 abbrev pub closed_superblock : Engine → List ℕ
 closed_superblock e = with_tail e.superblock (e.first + e.committed) 0

@@ -1,4 +1,4 @@
--- The engine with its device over the whole life of a log: who works on the device, and every move that may come.
+-- Who works on the device over the whole life of a log, and which moves may come.
 -- Source: the GoJournal paper (a disk that may crash at any step); fs/jbd2/recovery.c by behaviour.
 use Rattle.std.specs.Prelude.{◌≡◌, ℕ, List, [], ◌∷◌, ◌++◌, replicate, Option, Some, None}
 use Rattle.journal_model.specs.declared.number.Area.TheVariants.{Log}
@@ -15,45 +15,41 @@ use Rattle.log_epochs.specs.OpeningSteps.OpeningStage.{LogFlush, Done}
 use Rattle.log_epochs.specs.UpgradeSteps.{IsUpgradableOn, UpgradeCall, UpgradeStage, pinning_in}
 use Rattle.log_epochs.specs.UpgradeSteps.UpgradeStage.{LogFlush as LogUnflushed}
 
--- who works on the device
 pub data Phase : Type 0 where
-  Shut : Phase  -- nobody: it was never opened, a stop came, or it was handed out
+  Shut : Phase  -- nobody: never opened, crashed, or handed out
   Opening : (found : Found) → (stage : OpeningStage) → Phase
-  Upgrading : (block : List ℕ) → (stage : UpgradeStage) → Phase  -- an upgrade of a log with this superblock
+  Upgrading : (block : List ℕ) → (stage : UpgradeStage) → Phase  -- of a log with this superblock
   Running : Phase  -- the epoch's engine
-  Closing : Phase  -- the engine has written the superblock of a clean log, which is to be flushed
+  Closing : Phase  -- the clean superblock is written and not flushed
   Closed : Phase  -- the close answered Ok
 
 pub record World : Type 0 where
   pub shape : Shape  -- of the device
   pub disk : Disk
   pub phase : Phase
-  pub epoch : Option Epoch  -- none before the first opening that answers Ok
+  pub epoch : Option Epoch  -- none until an opening answers Ok
   pub ended : List Ended  -- newest first
 
--- the device call of a close that is due, and the phase after it succeeded
 pub data CloseCall (e : Engine) : Phase → Call → Phase → Type 0 where
   WriteClosed : MayClose e → CloseCall e Running (Write Log 0 (closed_superblock e)) Closing
   FlushClosed : CloseCall e Closing (Flush Log) Closed
 
--- what may come in an upgrade
 pub data UpgradeMove : Type 0 where
-  BeginUpgrade : (block : List ℕ) → UpgradeMove  -- it has read and tested the superblock
+  BeginUpgrade : (block : List ℕ) → UpgradeMove  -- the superblock was read and tested
   UpgradeStep : UpgradeMove
   UpgradeFault : UpgradeMove
 
--- what may come
 pub data Move : Type 0 where
-  Step : (event : Event) → Move  -- the engine makes a step, or the device fails in it
+  Step : (event : Event) → Move  -- a step of the engine, also one that fails
   CloseStep : Move
   CloseFault : Move
-  GiveUp : Move  -- whoever works on the device hands it out, with no stop
-  Stop : (left : Image) → Move  -- the power goes away, at any time
-  Begin : (found : Found) → Move  -- an opening has read and tested the log
+  GiveUp : Move  -- the device is handed out, without a crash
+  Stop : (left : Image) → Move  -- a crash, at any time
+  Begin : (found : Found) → Move  -- an opening read and tested the log
   OpeningStep : Move
   OpeningFault : Move
   AnswerOk : Move  -- the opening answers Ok
-  Upgrade : (move : UpgradeMove) → Move  -- of a log that nobody works on
+  Upgrade : (move : UpgradeMove) → Move  -- of a log on which nobody works
 
 pub record Steps (old : World) (event : Event) (new : World) : Type 0 where
   pub running : old.phase ≡ Running
@@ -115,7 +111,7 @@ pub record RecoveryFails (old new : World) : Type 0 where
   pub disk_is : IsAfterFault call old.disk new.disk
   pub after : new ≡ record old { disk = new.disk; phase = Shut }
 
--- the epoch before ends, and one begins with a new history
+-- the current epoch ends, and a new history begins
 pub record AnswersOk (old new : World) : Type 0 where
   pub found : Found
   pub opening : old.phase ≡ Opening found Done
@@ -170,18 +166,18 @@ Moves old OpeningFault new = RecoveryFails old new
 Moves old AnswerOk new = AnswersOk old new
 Moves old (Upgrade move) new = UpgradeMoves old move new
 
--- these moves, one after the other, may lead from one world to the other
+-- these moves, in order, may lead from old to new
 abbrev pub Leads : World → List Move → World → Type 0
 Leads old [] new = new ≡ old
 Leads old (move ∷ moves) new = (mid : World) × Moves old move mid × Leads mid moves new
 
--- where a life may begin: a device that nobody has opened, whatever it holds; or an engine just made on an opened log
+-- a life begins with a device that nobody has opened, with any content, or with an engine just made on an opened log
 pub data Begins (w : World) : Type 0 where
   Unopened : w.phase ≡ Shut → w.epoch ≡ None → w.ended ≡ [] → Begins w
   Made : (superblock : List ℕ) (next : ℕ) → IsOpenedLog w.shape w.disk superblock next → w.phase ≡ Running →
       w.epoch ≡ Some (fresh_epoch w.shape superblock next w.disk) → w.ended ≡ [] → Begins w
 
--- the world behind an opening that answered Ok: an engine runs on this disk, behind this superblock, from this number on
+-- after an opening that answered Ok, an engine runs on this disk
 abbrev pub opened_world : World → Disk → List ℕ → ℕ → World
 opened_world w disk superblock next = record w {
   disk = disk;
@@ -190,14 +186,13 @@ opened_world w disk superblock next = record w {
   ended = ending (pinning w.epoch (reading w.disk)) disk w.ended;
 }
 
--- Whatever came before: where nobody works on the old disk, an opening may begin, make some calls and answer Ok, and then an engine
--- runs on the new disk.
+-- In any world where nobody works on the old disk, an opening may make some calls and answer Ok; then an engine runs on the new
+-- disk.
 pub record LeadsToEngine (shape : Shape) (old new : Disk) (superblock : List ℕ) (next : ℕ) : Type 0 where
   pub found : Found
   pub leads : (w : World) → w.shape ≡ shape → w.disk ≡ old → w.phase ≡ Shut →
       (calls : ℕ) × Leads w (Begin found ∷ replicate calls OpeningStep ++ AnswerOk ∷ []) (opened_world w new superblock next)
 
--- moves lead from this world to an engine that runs
 pub record ComesToRun (w : World) : Type 0 where
   pub moves : List Move
   pub end : World

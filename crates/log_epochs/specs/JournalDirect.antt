@@ -1,5 +1,4 @@
--- What a journal keeps of a direct write that was synced: as its engine's world does, until a transaction with an entry of
--- the block is sealed.
+-- What a journal keeps of a synced direct write, until it seals a transaction with an entry of the block.
 use Rattle.std.specs.Prelude.{◌≡◌, ◌⊎◌, ⊤, ℕ, List, [], ◌∷◌, ◌++◌, Some, None, Contains}
 use Rattle.std.specs.List.{AllByRecursion}
 use Rattle.journal_model.specs.declared.number.Area.TheVariants.{Home}
@@ -15,13 +14,12 @@ use Rattle.log_epochs.specs.Epoch.{Epoch}
 use Rattle.log_epochs.specs.JournalWorld.{JournalWorld, Leads, Move, Moves}
 use Rattle.log_epochs.specs.JournalWorld.Move.{Step, Answer, Below}
 
--- the move is no stop
 abbrev pub IsNoStop : Move → Type 0
 IsNoStop (Step event) = ⊤
 IsNoStop (Answer tid) = ⊤
 IsNoStop (Below move) = BelowIsNoStop move
 
--- a step of the journal seals no transaction that has an entry of the block
+-- the step seals no transaction with an entry of the block
 abbrev pub SealsWithout : ℕ → Front → Event → Type 0
 SealsWithout b f Seal = effect b f.running.steps ≡ None
 SealsWithout b f (FrontStep event) = ⊤
@@ -38,19 +36,17 @@ SealsWithout b f DirectSyncFault = ⊤
 SealsWithout b f Finish = ⊤
 SealsWithout b f AbortMark = ⊤
 
--- nor does a move
 abbrev pub LeavesAlone : ℕ → Front → Move → Type 0
 LeavesAlone b f (Step event) = SealsWithout b f event
 LeavesAlone b f (Answer tid) = ⊤
 LeavesAlone b f (Below move) = ⊤
 
--- nor do any of these moves
 abbrev pub LeaveAlone : (b : ℕ) (old : JournalWorld) (moves : List Move) (new : JournalWorld) → Leads old moves new → Type 0
 LeaveAlone b old [] new same = ⊤
 LeaveAlone b old (move ∷ moves) new (mid, first, rest) = LeavesAlone b old.told.front move × LeaveAlone b mid moves new rest
 
--- Block b is written directly as v, and then home is synced, with no stop between. Before it and behind it anything may
--- come. No transaction that is sealed since that write has an entry of the block.
+-- Block b is written directly as v, and home is then synced, without a crash between. Other moves may come before, between
+-- and after, but no transaction sealed since the write has an entry of the block.
 pub record IsSynced (start : JournalWorld) (b : ℕ) (v : List ℕ) (end : JournalWorld) : Type 0 where
   pub before : List Move
   pub between : List Move
@@ -68,21 +64,19 @@ pub record IsSynced (start : JournalWorld) (b : ℕ) (v : List ℕ) (end : Journ
   pub alone : LeaveAlone b written between unsynced leads_on
   pub alone_behind : LeaveAlone b synced behind end leads
 
--- the moves since that write
 abbrev pub since_write : (start : JournalWorld) (b : ℕ) (v : List ℕ) (end : JournalWorld) → IsSynced start b v end → List Move
 since_write start b v end run = run.between ++ run.behind
 
--- a direct write among these moves hands these bytes over to the block, and perhaps fails
+-- a direct write among the moves hands over these bytes, and may fail
 pub data IsHandedOver (moves : List Move) (b : ℕ) (v : List ℕ) : Type 0 where
   Succeeded : Contains moves (Step (DirectWrite b v)) → IsHandedOver moves b v
   Failed : Contains moves (Step (DirectWriteFault b v)) → IsHandedOver moves b v
 
--- the bytes of that write, or of one since then
 abbrev pub IsThatOrLater : List Move → ℕ → List ℕ → List ℕ → Type 0
 IsThatOrLater since b v w = (w ≡ v) ⊎ IsHandedOver since b w
 
--- Home holds nothing else of the block, so that whatever a stop leaves it is one of these; and the engine of a journal that
--- runs reads nothing else of it. (The front may read an entry of a transaction that is not sealed yet.)
+-- Home holds, and the engine of a running journal reads, only such bytes of the block; so each crash image has them. (The
+-- front may read an entry of an unsealed transaction.)
 pub record KeepsDirect (since : List Move) (b : ℕ) (v : List ℕ) (w : JournalWorld) : Type 0 where
   pub holds : (u : List ℕ) → IsOneOf (held (w.below.disk Home b)) u → IsThatOrLater since b v u
   pub reads : (epoch : Epoch) (u : List ℕ) → w.below.phase ≡ Running → w.below.epoch ≡ Some epoch → IsRead epoch.engine w.below.disk b u →

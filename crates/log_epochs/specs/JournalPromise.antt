@@ -1,4 +1,4 @@
--- What every run of moves keeps of a journal's world: whole handles, nothing lost that was told, and the rule for home.
+-- What every run of moves keeps of a journal's world: whole handles, all acknowledged transactions, and the rule for home.
 -- Source: the GoJournal paper (atomic handles over a disk that may crash at any step), journalling.rst.
 use Rattle.std.specs.Prelude.{◌≡◌, ⊤, ℕ, ◌≤◌, List, [], ◌∷◌, ◌++◌, length, Option, Some, None, unwrap_or}
 use Rattle.journal_model.specs.declared.number.Area.TheVariants.{Home}
@@ -19,11 +19,10 @@ use Rattle.log_epochs.specs.EngineWorld.Phase.{Shut, Opening, Upgrading, Running
 use Rattle.log_epochs.specs.JournalWorld.{JournalWorld, Move, Moves, Told}
 use Rattle.log_epochs.specs.JournalWorld.Move.{Step, Answer, Below}
 
--- What an image keeps, with one number n: all that was told committed and nothing that was not sealed; n is the count of
--- what the log of the image that pinned it has, and of its own where none has. An opening makes each block its last copy in
--- the first n transactions, or else leaves it as home held it, and that rightly. The numbers follow one another; each handle
--- that was given out lies in exactly one transaction, and has all its steps in that one; and each recorded read of a block that
--- was written before it gave the last write's bytes.
+-- What an image keeps, with one n from the acknowledged to the sealed transactions, their count by the log of the pin (of the
+-- image, if there is no pin). An opening gives each block its last copy in the first n, else the permitted value at home. Numbers
+-- follow one another. Each handle lies in one transaction with all its steps. Each recorded read of a block written earlier gave
+-- the last write's bytes.
 pub record Kept (shape : Shape) (epoch : Epoch) (told : Told) (image : Image) : Type 0 where
   pub n : ℕ
   pub low : acknowledged told.answered told.front.sealed ≤ n
@@ -36,12 +35,12 @@ pub record Kept (shape : Shape) (epoch : Epoch) (told : Told) (image : Image) : 
   pub handles : EachHandleOnce (transactions told.front)
   pub legal : IsLegal (transactions told.front)
 
--- each image that a stop may leave now keeps it; before the first opening that answers Ok nothing is promised
+-- nothing is promised before the first opening that answers Ok
 abbrev pub KeepsNow : Shape → Option Epoch → Disk → Told → Type 0
 KeepsNow shape None disk told = ⊤
 KeepsNow shape (Some epoch) disk told = (image : Image) → Leaves disk image → Kept shape epoch told image
 
--- so does each image that a stop might leave when an opening ended an epoch
+-- every crash image of the disk that an epoch ended with is clean and keeps the promise
 pub record EndedWell (shape : Shape) (x : Ended) (told : Told) : Type 0 where
   pub pin : Image
   pub pin_is : x.epoch.pin ≡ Some pin
@@ -54,7 +53,6 @@ HaveEndedWell shape (x ∷ xs) (t ∷ ts) = EndedWell shape x t × HaveEndedWell
 HaveEndedWell shape [] (t ∷ ts) = ⊥
 HaveEndedWell shape (x ∷ xs) [] = ⊥
 
--- a closed log is clean, and opens to all sealed transactions
 pub record IsClosed (shape : Shape) (ts : History) (image : Image) : Type 0 where
   pub clean : IsClean shape image
   pub all : Opens shape ts (length ts) image
@@ -67,8 +65,8 @@ KeepsClosed shape disk told (Upgrading block stage) = ⊤
 KeepsClosed shape disk told Running = ⊤
 KeepsClosed shape disk told Closing = ⊤
 
--- what a step of the journal may add to home: a direct write its bytes, where it has the right to; any other step the copy
--- that the committed transactions leave of the block
+-- what a step may add to home: a direct write its bytes, if it has the right to; a round the copy that the committed transactions
+-- leave
 abbrev pub StepMayAdd : Epoch → Front → Event → Addition
 StepMayAdd epoch f (DirectWrite block bytes) b v = IsDirectWrite (transactions f) epoch.engine.committed (finished_count f) block bytes b v
 StepMayAdd epoch f (DirectWriteFault block bytes) b v = IsDirectWrite (transactions f) epoch.engine.committed (finished_count f) block bytes b v
@@ -89,19 +87,17 @@ abbrev pub JournalMayAdd : Option Epoch → Front → Event → Addition
 JournalMayAdd None f event b v = ⊥
 JournalMayAdd (Some epoch) f event b v = StepMayAdd epoch f event b v
 
--- what a move may add: an answer nothing
 abbrev pub MayAdd : JournalWorld → Move → Addition
 MayAdd w (Step event) b v = JournalMayAdd w.below.epoch w.told.front event b v
 MayAdd w (Answer tid) b v = ⊥
 MayAdd w (Below move) b v = BelowMayAdd w.below move b v
 
--- what the front of the epoch of now keeps beside its engine
 abbrev pub KeepsFrontNow : Option Epoch → Told → Type 0
 KeepsFrontNow None told = ⊤
 KeepsFrontNow (Some epoch) told = KeepsFront told.front epoch.engine
 
--- What a move does to the steps that handles have made: nothing; a handle that is open writes, revokes or reads, which is one step
--- more; the running transaction is sealed with all of them, while no handle is open; or an epoch begins.
+-- What a move does to the steps of handles: nothing; one more write, revoke or read of an open handle; a seal of them all, without
+-- an open handle; or a new epoch.
 pub data MakesSteps (move : Move) (old new : Front) : Type 0 where
   NoStep : new.sealed ≡ old.sealed → new.running.steps ≡ old.running.steps → MakesSteps move old new
   OneWrite : (h b : ℕ) (v : List ℕ) → move ≡ Step (FrontStep (WriteBlock h b v)) → IsOpen old h → new.sealed ≡ old.sealed →
@@ -113,9 +109,8 @@ pub data MakesSteps (move : Move) (old new : Front) : Type 0 where
   Sealed : move ≡ Step Seal → old.open_handles ≡ [] → new.sealed ≡ old.sealed ++ old.running ∷ [] → new.running.steps ≡ [] → MakesSteps move old new
   Begun : move ≡ Below AnswerOk → new.sealed ≡ [] → new.running.steps ≡ [] → MakesSteps move old new
 
--- Each epoch keeps its promise: the one of now whatever a stop leaves at this moment, those that ended whatever one left
--- then. Front and engine agree. Whatever move comes next adds to home nothing but what it may, and no step of a
--- handle but of one that is open.
+-- Each epoch keeps its promise: the current one in every crash image of now, an ended one in every crash image of its end. Front
+-- and engine agree. The next move adds to home only what it may, and steps only of an open handle.
 pub record KeepsPromise (w : JournalWorld) : Type 0 where
   pub now : KeepsNow w.below.shape w.below.epoch w.below.disk w.told
   pub ended : HaveEndedWell w.below.shape w.below.ended w.past

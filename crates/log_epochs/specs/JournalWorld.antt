@@ -1,5 +1,4 @@
--- The journal's world: the engine's, with the front of each epoch and what callers were told in it. The journal's steps
--- are those which the contracts of the crate that runs it cite.
+-- The journal's world: the engine's, with each epoch's front and answers. Contracts of the running crates cite its steps.
 -- Source: the GoJournal paper (atomic handles over a disk that may crash at any step), journalling.rst.
 use Rattle.std.specs.Prelude.{◌≡◌, ⊤, ℕ, ◌≤◌, List, [], ◌∷◌, Option, Some, None}
 use Rattle.journal_model.specs.Disk.{Disk, Image}
@@ -13,27 +12,25 @@ use Rattle.log_epochs.specs.EngineWorld.Move.{Step as EngineStep, CloseStep, Clo
 use Rattle.log_epochs.specs.EngineWorld.Phase.{Running}
 use Rattle.log_epochs.specs.Epoch.{Epoch, pinning}
 
--- the front of an epoch, and the numbers of the transactions that a wait or a status told committed in it
+-- an epoch's front, and the transactions acknowledged in it
 pub record Told : Type 0 where
   pub front : Front
   pub answered : List ℕ
 
 pub record JournalWorld : Type 0 where
   pub below : World
-  pub told : Told  -- in the epoch of now
-  pub past : List Told  -- in the epochs that ended, as the world below has them
+  pub told : Told  -- of the current epoch
+  pub past : List Told  -- of the ended epochs, as `below` has them
 
--- what may come
 pub data Move : Type 0 where
-  Step : (event : Event) → Move  -- the journal makes a step, or the device fails in it
-  Answer : (tid : ℕ) → Move  -- a wait or a status of a transaction is answered by the mark
+  Step : (event : Event) → Move  -- a step of the journal, also one that fails
+  Answer : (tid : ℕ) → Move  -- the mark acknowledges a transaction, in a wait or a status
   Below : (move : BelowMove) → Move  -- a move of the engine's world that is no step of the journal
 
--- the journal of an epoch
 abbrev pub journal_of : Epoch → Told → Journal
 journal_of epoch told = record { front = told.front; engine = epoch.engine }
 
--- the direct writes since an opening, newest first, once this has happened
+-- direct writes since the opening, newest first, failed ones too
 abbrev pub with_directs : Event → List (ℕ × List ℕ) → List (ℕ × List ℕ)
 with_directs (WriteDirect b v) directs = (b, v) ∷ directs
 with_directs (WriteDirectFails b v) directs = (b, v) ∷ directs
@@ -61,35 +58,31 @@ pub record Steps (old : JournalWorld) (event : Event) (new : JournalWorld) : Typ
     told = record old.told { front = journal.front };
   }
 
--- a wait or a status tells that this transaction is committed: the mark has come to its number
+-- a wait or a status acknowledges a transaction up to the mark
 pub record Answers (old : JournalWorld) (tid : ℕ) (new : JournalWorld) : Type 0 where
   pub running : old.below.phase ≡ Running
   pub marked : tid ≤ old.told.front.mark
   pub after : new ≡ record old { told = record old.told { answered = tid ∷ old.told.answered } }
 
--- the front of an epoch that begins, in which nothing is told yet
 pub record IsFreshTold (epoch : Epoch) (told : Told) : Type 0 where
   pub journal : IsFresh epoch.engine.shape epoch.engine.superblock epoch.engine.first (journal_of epoch told)
   pub unanswered : told.answered ≡ []
 
--- what was told stays
 pub record TellsSame (old new : JournalWorld) : Type 0 where
   pub told : new.told ≡ old.told
   pub past : new.past ≡ old.past
 
--- what was told in the epochs that ended, newest first, once this one has
 abbrev pub telling : Option Epoch → Told → List Told → List Told
 telling None told past = past
 telling (Some epoch) told past = told ∷ past
 
--- an epoch begins
 pub record TellsAnew (old new : JournalWorld) : Type 0 where
   pub epoch : Epoch
   pub now : new.below.epoch ≡ Some epoch
   pub fresh : IsFreshTold epoch new.told
   pub past : new.past ≡ telling old.below.epoch old.told old.past
 
--- of the engine's steps a read alone is none of the journal's
+-- of the engine's steps only a read is no step of the journal
 abbrev pub TellsAfterStep : EngineEvent → JournalWorld → JournalWorld → Type 0
 TellsAfterStep (Read block bytes) old new = TellsSame old new
 TellsAfterStep (Accept batch) old new = ⊥
@@ -103,7 +96,6 @@ TellsAfterStep (DirectWriteFault block bytes) old new = ⊥
 TellsAfterStep DirectSync old new = ⊥
 TellsAfterStep DirectSyncFault old new = ⊥
 
--- what is told after a move of the world below
 abbrev pub TellsAfter : BelowMove → JournalWorld → JournalWorld → Type 0
 TellsAfter (EngineStep event) old new = TellsAfterStep event old new
 TellsAfter CloseStep old new = TellsSame old new
@@ -125,12 +117,11 @@ Moves old (Step event) new = Steps old event new
 Moves old (Answer tid) new = Answers old tid new
 Moves old (Below move) new = GoesBelow old move new
 
--- these moves, one after the other, may lead from one world to the other
+-- these moves, in order, may lead from old to new
 abbrev pub Leads : JournalWorld → List Move → JournalWorld → Type 0
 Leads old [] new = new ≡ old
 Leads old (move ∷ moves) new = (mid : JournalWorld) × Moves old move mid × Leads mid moves new
 
--- where there is an epoch, its front is fresh
 abbrev pub TellsNothing : Option Epoch → Told → Type 0
 TellsNothing None told = ⊤
 TellsNothing (Some epoch) told = IsFreshTold epoch told
@@ -141,12 +132,12 @@ pub record Begins (w : JournalWorld) : Type 0 where
   pub fresh : TellsNothing w.below.epoch w.told
   pub first : w.past ≡ []
 
--- an epoch as it was, or pinned
+-- the epoch is unchanged, or pinned
 pub data PinsAtMost (old new : Option Epoch) : Type 0 where
   Unpinned : new ≡ old → PinsAtMost old new
   PinnedAt : (image : Image) → new ≡ pinning old image → PinsAtMost old new
 
--- moves of an opening lead from this world to this disk: nothing else changes but who works on it, and the epoch may be pinned
+-- moves of an opening lead to this disk; besides only the phase changes, and the epoch may be pinned
 pub record ComesTo (w : JournalWorld) (disk : Disk) : Type 0 where
   pub phase : Phase
   pub epoch : Option Epoch

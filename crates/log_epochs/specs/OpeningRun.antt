@@ -1,4 +1,4 @@
--- What the calls of an opening lead to, from the disk that it read: how far they came, and each moment between them.
+-- Which disks an opening's calls lead to, from the disk that it read, and which moments lie between them.
 use Rattle.std.specs.Prelude.{◌≡◌, ◌≢◌, ◌⊎◌, ℕ, List}
 use Rattle.journal_model.specs.declared.number.Area.TheVariants.{Log}
 use Rattle.journal_model.specs.Disk.{Disk, IsOneOf, Shape, flushed, held, reading}
@@ -10,18 +10,17 @@ use Rattle.journal_world.specs.Opening.{KeepsOpening}
 use Rattle.log_epochs.specs.OpeningSteps.{Found, IsFound, OpeningCall, OpeningStage, clean_superblock}
 use Rattle.log_epochs.specs.OpeningSteps.OpeningStage.{LogFlush}
 
--- it is what the disk reads, and good
+-- the disk reads this, and it is good
 pub record IsFoundOn (shape : Shape) (found : Found) (old : Disk) : Type 0 where
   pub read : found.image ≡ reading old
   pub good : IsFound shape found
 
--- calls that were due and succeeded, one after the other, lead from the disk that was read to this one at this stage
+-- due calls that succeeded, in order, lead from the disk that was read to this disk and stage
 pub data Reached (shape : Shape) (found : Found) (old : Disk) : OpeningStage → Disk → Type 0 where
   Tested : Reached shape found old LogFlush old
   Called : (stage next : OpeningStage) (call : Call) (disk new : Disk) → Reached shape found old stage disk →
       OpeningCall shape found disk stage call next → new ≡ after_success call disk → Reached shape found old next new
 
--- a call that was due failed
 pub record Failed (shape : Shape) (found : Found) (old new : Disk) : Type 0 where
   pub stage : OpeningStage
   pub next : OpeningStage
@@ -31,15 +30,13 @@ pub record Failed (shape : Shape) (found : Found) (old new : Disk) : Type 0 wher
   pub due : OpeningCall shape found disk stage call next
   pub fault : IsAfterFault call disk new
 
--- a moment of an opening of the old disk
 pub data IsMoment (shape : Shape) (old disk : Disk) : Type 0 where
   Unread : disk ≡ old → IsMoment shape old disk
   At : (found : Found) (stage : OpeningStage) → IsFoundOn shape found old → Reached shape found old stage disk → IsMoment shape old disk
   Fault : (found : Found) → IsFoundOn shape found old → Failed shape found old disk → IsMoment shape old disk
 
--- What stands behind the flush of the log. Each image that a stop may leave opens to what every image opened to at that
--- flush. Home has gained newest live copies alone. Of the log nothing but block 0 is written, and that only with the
--- superblock of the clean log where the log was not clean.
+-- After the flush of the log each crash image opens to the n of that flush. Home gained newest live copies alone. Of
+-- the log only block 0 is written, with the clean superblock, and only if the log was not clean.
 pub record IsPastFlush (shape : Shape) (found : Found) (old disk : Disk) : Type 0 where
   pub keeps : KeepsOpening shape (flushed old Log) disk
   pub home : HomeAddsOnly (IsNewest found.texts) old disk

@@ -1,4 +1,4 @@
--- An opening as a machine: what it read and found good, how far it is, and the one device call of each step.
+-- An opening as a machine: what it read and accepted, and which device call is due.
 -- Source: fs/jbd2/recovery.c by behaviour; the flush at its begin and the clean log at its end are this project's own.
 use Rattle.std.specs.Prelude.{◌≡◌, ℕ, ◌+◌, ◌<◌, List, [], length}
 use Rattle.log_model.specs.declared.log.Text.{Text}
@@ -10,41 +10,37 @@ use Rattle.log_model.specs.Superblock.{with_tail}
 use Rattle.journal_world.specs.Call.{Call}
 use Rattle.journal_world.specs.Call.Call.{Write, Flush}
 
--- how far an opening is: which device call is due
+-- which device call of an opening is due
 pub data OpeningStage : Type 0 where
-  LogFlush : OpeningStage  -- the log was read and tested, and nothing is written: it is to be flushed
-  Copies : OpeningStage  -- newest copies go home, in any order; where home reads as replay makes it, it is to be flushed
-  SuperblockWrite : OpeningStage  -- home is durable: the superblock of a clean log is to be written
-  SuperblockFlush : OpeningStage  -- it is to be flushed
+  LogFlush : OpeningStage  -- the log was read and tested; due: its flush
+  Copies : OpeningStage  -- due: a newest copy, in any order, or the flush of home once it reads as the replay makes it
+  SuperblockWrite : OpeningStage  -- home is durable; due: the write of the clean superblock
+  SuperblockFlush : OpeningStage  -- due: its flush
   Done : OpeningStage  -- Ok may be answered
 
--- what an opening read: the whole image, the texts of its chain, and the greatest number that a ring block may carry
+-- the whole image, the texts of its chain, and the greatest number that a ring block may carry
 pub record Found : Type 0 where
   pub image : Image
   pub texts : List Text
   pub limit : ℕ
 
--- the texts and the limit are the image's: those of its chain, or in a clean log none
+-- the texts of the chain (none in a clean log), and the limit
 pub data HasTexts (shape : Shape) (image : Image) : List Text → ℕ → Type 0 where
   NoTexts : IsClean shape image → HasTexts shape image [] (super_of image).s_sequence
   Texts : (texts : List Text) → HasChain shape image texts → HasTexts shape image texts ((super_of image).s_sequence + length texts)
 
--- none of the refusals of content stands in the image
 pub record IsFound (shape : Shape) (found : Found) : Type 0 where
   pub size : length (found.image Log 0) ≡ shape.block_size
   pub has : HasTexts shape found.image found.texts found.limit
   pub none_ahead : NothingAhead found.image found.limit
   pub number : found.limit < greatest_number
 
--- the number of the next transaction
 abbrev pub next_of : Found → ℕ
 next_of found = found.limit + 1
 
--- the superblock that says that the log is clean
 abbrev pub clean_superblock : Found → List ℕ
 clean_superblock found = with_tail (found.image Log 0) (next_of found) 0
 
--- the device call that is due, and how far the opening is after it succeeded
 pub data OpeningCall (shape : Shape) (found : Found) (disk : Disk) : OpeningStage → Call → OpeningStage → Type 0 where
   FlushClean : IsClean shape found.image → OpeningCall shape found disk LogFlush (Flush Log) Done
   FlushLog : HasChain shape found.image found.texts → OpeningCall shape found disk LogFlush (Flush Log) Copies

@@ -1,4 +1,4 @@
--- What the calls of an upgrade lead to, from the disk that it read: how far they came, and each moment between them.
+-- Which disks an upgrade's calls lead to, from the disk that it read, and which moments lie between them.
 use Rattle.std.specs.Prelude.{◌≡◌, ◌≢◌, ◌⊎◌, ℕ, List}
 use Rattle.journal_model.specs.declared.number.Area.TheVariants.{Log, Home}
 use Rattle.journal_model.specs.Disk.{Disk, Image, IsOneOf, Leaves, Shape, flushed, held}
@@ -9,13 +9,12 @@ use Rattle.journal_world.specs.Opening.{KeepsOpening}
 use Rattle.log_epochs.specs.UpgradeSteps.{IsUpgradableOn, UpgradeCall, UpgradeStage}
 use Rattle.log_epochs.specs.UpgradeSteps.UpgradeStage.{LogFlush}
 
--- calls that were due and succeeded, one after the other, lead from the disk that was read to this one at this stage
+-- due calls that succeeded, in order, lead from the disk that was read to this disk and stage
 pub data UpgradeReached (block : List ℕ) (old : Disk) : UpgradeStage → Disk → Type 0 where
   Tested : UpgradeReached block old LogFlush old
   Called : (stage next : UpgradeStage) (call : Call) (disk new : Disk) → UpgradeReached block old stage disk →
       UpgradeCall block stage call next → new ≡ after_success call disk → UpgradeReached block old next new
 
--- a call that was due failed
 pub record UpgradeFailed (block : List ℕ) (old new : Disk) : Type 0 where
   pub stage : UpgradeStage
   pub next : UpgradeStage
@@ -25,15 +24,13 @@ pub record UpgradeFailed (block : List ℕ) (old new : Disk) : Type 0 where
   pub due : UpgradeCall block stage call next
   pub fault : IsAfterFault call disk new
 
--- a moment of an upgrade of the old disk
 pub data IsUpgradeMoment (shape : Shape) (old disk : Disk) : Type 0 where
   Unread : disk ≡ old → IsUpgradeMoment shape old disk
   At : (block : List ℕ) (stage : UpgradeStage) → IsUpgradableOn shape block old → UpgradeReached block old stage disk → IsUpgradeMoment shape old disk
   Fault : (block : List ℕ) → IsUpgradableOn shape block old → UpgradeFailed block old disk → IsUpgradeMoment shape old disk
 
--- What stands behind the flush of the log. Each image that a stop may leave opens to what every image opened to at that flush, and
--- its next transaction has the same number. Home is as it was. Of the log nothing but block 0 is written, and that only with
--- the features of a wide log.
+-- After the flush of the log each crash image opens to the n of that flush, with the same next number. Home is unchanged. Of
+-- the log only block 0 is written, with the superblock of a wide log.
 pub record IsPastUpgradeFlush (shape : Shape) (block : List ℕ) (old disk : Disk) : Type 0 where
   pub keeps : KeepsOpening shape (flushed old Log) disk
   pub number : (image : Image) → Leaves disk image → HasLimit shape image (super_in block).s_sequence

@@ -1,4 +1,4 @@
--- A superblock that is accepted stays so with a new tail.
+-- An accepted superblock stays so with a new tail.
 use Rattle.std.proofs.Common.{arith, inl, inr}
 use Rattle.std.specs.Prelude.{◌≡◌, ◌⊎◌, ℕ, ◌^◌, ◌<◌, ◌≤◌, ◌==◌, ◌&&◌, ◌||◌, nat_le, nat_lt, true, List, length, None}
 use Rattle.std.proofs.lemmas.Bool.Decides.{nat_tests}
@@ -6,7 +6,7 @@ use Rattle.journal_model.specs.Disk.{Shape}
 use Rattle.log_model.specs.Superblock.{greatest_length, super_in, super_refusal, with_tail}
 use Rattle.log_format.proofs.Superblocks.{before_tail, behind_tail, magic_of_tail, start_of_tail}
 
--- a superblock that is accepted has no more blocks than a log may have
+-- an accepted superblock has no more blocks than a log may have
 greatest_is : (shape : Shape) (block : List ℕ) → super_refusal shape block ≡ None → (super_in block).s_maxlen ≤ greatest_length
 greatest_is shape block accepted = grind (arith, nat_tests)
 

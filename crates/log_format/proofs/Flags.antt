@@ -14,7 +14,7 @@ small_flags w small none =
     let zero : bit_and w 65524 / 16 ≡ 0 = rw none refl in
     omega arith
 
--- and have no bit 4
+-- they have no bit 4
 no_deleted : (w : ℕ) → bit_and w 65524 ≡ 0 → w / 4 % 2 ≡ 0
 no_deleted w none =
     let both = bit_at_and w 65524 2 in
@@ -29,13 +29,13 @@ unset m p none = rw none refl
 set : (m p : ℕ) → 0 < p → m ≡ p → (if not (nat_eq m 0) then p else 0) ≡ m
 set m p some is = grind (arith, nat_tests)
 
--- a flag by its bit
+-- the value of a flag by its bit
 flag_is : (bit m p : ℕ) → 0 < p → bit < 2 → m ≡ bit * p → (if not (nat_eq m 0) then p else 0) ≡ m
 flag_is zero m p some below is = unset m p (omega arith)
 flag_is (suc zero) m p some below is = set m p some (omega arith)
 flag_is (suc (suc bit)) m p some below is = absurd (omega arith)
 
--- flags without a bit outside 1, 2 and 8 are the sum of these that are set
+-- flags within 1, 2 and 8 are the sum of those set
 pub flags_are : (w : ℕ) → w < 2 ^ 16 → bit_and w 65524 ≡ 0 →
     w ≡ (if not (nat_eq (bit_and w 1) 0) then 1 else 0) + (if not (nat_eq (bit_and w 2) 0) then 2 else 0) + (if not (nat_eq (bit_and w 8) 0) then 8 else 0)
 flags_are w small none =

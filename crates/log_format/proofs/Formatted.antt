@@ -1,4 +1,4 @@
--- What the superblock of an empty log says, and that it is accepted.
+-- The fields of an empty log's superblock, and that it is accepted.
 use Rattle.std.proofs.Common.{refl, ap, ap₂, ◌∙◌, arith, append_assoc, inl, inr, take_at}
 use Rattle.std.specs.Prelude.{◌≡◌, ℕ, ◌-◌, ◌^◌, ◌<◌, ◌≤◌, ◌==◌, ◌&&◌, ◌||◌, nat_le, Bool, true, false, List, [], ◌∷◌, ◌++◌, length, take, drop, replicate, None}
 use Rattle.std.specs.List.{flat_map}
@@ -27,7 +27,6 @@ saying size maxlen uuid features users =
       s_nr_users = users;
     }
 
--- the numbers that differ are read back, and the others are computed
 -- the features are read back
 features-read : (is_wide : Bool) (front rest : List ℕ) → length front ≡ 0x28 →
     number_at 0x28 4 (front ++ (big_endian 4 (features_of is_wide) ++ rest)) ≡ features_of is_wide
@@ -59,8 +58,7 @@ size_allowed size (inl kib) = rw kib refl
 size_allowed size (inr (inl kib2)) = rw kib2 refl
 size_allowed size (inr (inr kib4)) = rw kib4 refl
 
--- the superblock of an empty log is accepted, where its length is
--- both passes the test
+-- the superblock of an empty log is accepted, if its length is
 features-pass : (is_wide : Bool) → ((features_of is_wide == revoke_feature) || (features_of is_wide == wide_features)) ≡ true
 features-pass true = refl
 features-pass false = refl

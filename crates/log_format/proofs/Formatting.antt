@@ -8,7 +8,7 @@ use Rattle.journal_model.specs.Layout.{big_endian, header, padded, super_type}
 use Rattle.log_model.specs.Superblock.{features_of, formatted_super}
 use Rattle.log_format.proofs.Writing.{filled, written_more}
 
--- writing within a list leaves it as long as it was
+-- a write within a list keeps its length
 length-put_mid : (at k : ℕ) (block bytes : List ℕ) → at + k ≤ length block → length bytes ≡ k → length (put_mid at k block bytes) ≡ length block
 length-put_mid at k block bytes within size =
     omega (arith, length-append (take at block) (bytes ++ drop k (drop at block)), length-append bytes (drop k (drop at block)), length-take at block, length-drop k (drop at block), length-drop at block)
@@ -17,7 +17,7 @@ length-put_mid at k block bytes within size =
 abbrev pub numbers_of_super : ℕ → ℕ → Bool → List ℕ
 numbers_of_super size maxlen is_wide = size ∷ maxlen ∷ 1 ∷ 1 ∷ 0 ∷ 0 ∷ 0 ∷ features_of is_wide ∷ 0 ∷ []
 
--- the header, the numbers, the UUID, the count of users and zeros are the superblock
+-- header, numbers, UUID, users and zeros are the superblock
 pub formatted : (first second third fourth numbers uuid users rest zeros : List ℕ) (maxlen : ℕ) (is_wide : Bool) →
     1024 ≤ length first → take 12 first ≡ header super_type 0 →
     numbers ≡ flat_map (big_endian 4) (numbers_of_super (length first) maxlen is_wide) → second ≡ put_mid 12 36 first numbers →

@@ -12,6 +12,6 @@ pub number-taken : (b : Bool) → (4 + (if b then 4 else 0) ≡ 4) ⊎ (4 + (if 
 number-taken true = inr refl
 number-taken false = inl refl
 
--- it is one of those that are taken
+-- the layout of an accepted log is allowed
 pub accepted-taken : {block_size log_blocks : ℕ} {s : Super} → IsAccepted block_size log_blocks s → IsLayout (layout_of s)
 accepted-taken accepted = (subst IsBlockSize (sym accepted.size) accepted.allowed, number-taken _)

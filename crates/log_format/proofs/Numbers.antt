@@ -1,10 +1,10 @@
--- A number in bytes that others are dropped in front of.
+-- Numbers in bytes after others were dropped in front.
 use Rattle.std.proofs.Common.{refl, ap, ap₂, ◌∙◌, arith, get_or-drop, add-suc}
 use Rattle.std.specs.Prelude.{◌≡◌, ℕ, zero, suc, ◌+◌, ◌-◌, ◌*◌, ◌^◌, List, length, take, drop}
 use Rattle.journal_model.specs.Layout.{number_at}
 use Rattle.std.proofs.lemmas.List.{take_rest}
 
--- a number behind bytes that are dropped
+-- a number after dropped bytes
 pub number_at-drop : (n at k : ℕ) (bytes : List ℕ) → number_at at k (drop n bytes) ≡ number_at (n + at) k bytes
 number_at-drop n at zero bytes = refl
 number_at-drop n at (suc k) bytes =

@@ -1,4 +1,4 @@
--- Reading a descriptor's tags one after the other: what the tags so far and the bytes behind them say of the whole.
+-- The tags so far, and the bytes after them, determine the whole.
 use Rattle.std.proofs.Common.{refl, ap, sym, subst, ◌∙◌, arith, append_assoc, drop_at}
 use Rattle.std.specs.Prelude.{◌≡◌, ℕ, ◌+◌, ◌*◌, ◌<◌, ◌≤◌, Bool, true, false, if◌then◌else◌, List, [], ◌∷◌, ◌++◌, length, drop, All}
 use Rattle.std.proofs.lemmas.List.Elements.{All-drop, All-head, All-push, All-same}
@@ -28,7 +28,7 @@ same_fields t u block escaped same_uuid last =
     ap (λ n. tag_of n t.escaped t.same_uuid t.last) block ∙ ap (λ flag. tag_of u.block flag t.same_uuid t.last) escaped
     ∙ ap (λ flag. tag_of u.block u.escaped flag t.last) same_uuid ∙ ap (λ flag. tag_of u.block u.escaped u.same_uuid flag) last
 
--- bytes begin with one tag at most
+-- bytes begin with at most one tag
 pub one_tag : (l : Layout) (bytes : List ℕ) (t u : Tag) → BeginsWithTag l bytes t → BeginsWithTag l bytes u → t ≡ u
 one_tag l bytes t u first second =
     let flags : flag_word t ≡ flag_word u = sym first.flags ∙ second.flags in
@@ -40,7 +40,7 @@ one_tag l bytes t u first second =
     let high = lowest t.last u.last 0 0 (omega (arith, middle.1)) in
     same_fields t u (first.block ∙ sym second.block) low.0 middle.0 high.0
 
--- the bytes begin with the tags that are done and then with those that the rest begins with, and with no others
+-- the bytes begin with the tags done, then with those of the rest
 pub record Reads (l : Layout) (home : ℕ) (bytes rest : List ℕ) (done : List Tag) : Type 0 where
   pub onward : (us : List Tag) → BeginsWithTags l rest us → BeginsWithTags l bytes (done ++ us)
   pub back : (ts : List Tag) → BeginsWithTags l bytes ts → (us : List Tag) × ((ts ≡ done ++ us) × BeginsWithTags l rest us)
@@ -94,13 +94,13 @@ first_tag l home rest [] begins below = absurd begins
 first_tag l home rest (t ∷ []) begins below = (t, (begins.0, All-head (λ t. t.block < home) t [] below))
 first_tag l home rest (t ∷ u ∷ us) begins below = (t, (begins.0, All-head (λ t. t.block < home) t (u ∷ us) below))
 
--- the tags behind those that are done are below the home count too
+-- the tags after those that are done are below the home count too
 behind_below : (home : ℕ) (done us ts : List Tag) → ts ≡ done ++ us → All (λ t. t.block < home) ts → All (λ t. t.block < home) us
 behind_below home done us ts is below =
     All-same (λ t. t.block < home) us (drop (length done) ts) (sym (drop_at done us (length done) refl) ∙ ap (drop (length done)) (sym is))
     (All-drop (λ t. t.block < home) (length done) ts below)
 
--- where the rest begins with no tag, no tags are those of the whole
+-- if the rest begins with no tag, the whole has no tags
 pub reads_stuck : (l : Layout) (home : ℕ) (bytes rest : List ℕ) (done ts : List Tag) →
     Reads l home bytes rest done → ((t : Tag) → BeginsWithTag l rest t → t.block < home → ⊥) →
     BeginsWithTags l bytes ts → All (λ t. t.block < home) ts →
@@ -110,7 +110,7 @@ reads_stuck l home bytes rest done ts reads none all below =
     let first = first_tag l home rest before.0 before.1.1 (behind_below home done before.0 ts before.1.0 below) in
     none first.0 first.1.0 first.1.1
 
--- where the UUID behind a tag that is not the last one does not fit, no tags are those of the whole
+-- if the UUID after an inner tag does not fit, there are no tags
 pub reads_short : (l : Layout) (home : ℕ) (bytes rest : List ℕ) (done ts : List Tag) (t : Tag) →
     Reads l home bytes rest done → BeginsWithTag l rest t →
     t.last ≡ false → length rest < tag_bytes l + uuid_behind t →

@@ -1,4 +1,4 @@
--- What a superblock says once it has the features of a wide log: these, and else what it said before.
+-- A widened superblock has the wide features, and keeps all other fields.
 use Rattle.std.proofs.Common.{refl, ap, sym, ◌∙◌, arith, append_assoc, drop-drop, drop_at, length-append, length-take, length-drop}
 use Rattle.std.specs.Prelude.{◌≡◌, ℕ, ◌+◌, ◌≤◌, List, [], ◌∷◌, ◌++◌, length, take, drop, None}
 use Rattle.journal_model.specs.Disk.{Shape}
@@ -18,20 +18,20 @@ unfolding widened
 length-widened block long =
     simp (length-append, length-take, length-drop) (omega arith)
 
--- a field before the features
+-- a field before the features is kept
 pub before_features : (at : ℕ) (block : List ℕ) → at + 4 ≤ 0x28 → 0x28 ≤ length block → number_at at 4 (widened block) ≡ number_at at 4 block
 before_features at block before long =
     ap (number_at at 4) (grouped block)
     ∙ kept_before at 4 0x28 block (big_endian 4 wide_features ++ drop 0x2c block) before long
 
--- a field behind them
+-- a field after the features is kept
 pub behind_features : (at : ℕ) (block : List ℕ) → 0x28 ≤ length block → number_at (0x2c + at) 4 (widened block) ≡ number_at (0x2c + at) 4 block
 unfolding widened
 behind_features at block long =
     kept_behind at 4 0x2c (take 0x28 block ++ big_endian 4 wide_features) block
     (omega (arith, length-append (take 0x28 block) (big_endian 4 wide_features), length-take 0x28 block))
 
--- the bytes behind them
+-- the bytes after the features are kept
 pub rest_of_features : (n : ℕ) (block : List ℕ) → 0x28 ≤ length block → drop (0x2c + n) (widened block) ≡ drop (0x2c + n) block
 unfolding widened
 rest_of_features n block long =
@@ -40,13 +40,13 @@ rest_of_features n block long =
     (omega (arith, length-append (take 0x28 block) (big_endian 4 wide_features), length-take 0x28 block)))
     ∙ drop-drop n 0x2c block
 
--- the features
+-- the features are the new ones
 pub new_features : (block : List ℕ) → 0x28 ≤ length block → number_at 0x28 4 (widened block) ≡ wide_features
 new_features block long =
     ap (number_at 0x28 4) (grouped block)
     ∙ number_behind_bytes (take 0x28 block) (drop 0x2c block) 0x28 4 wide_features (omega (arith, length-take 0x28 block)) (omega arith)
 
--- the magic
+-- the magic is kept
 pub magic_stays : (block : List ℕ) → 0x28 ≤ length block → begins_with_magic (widened block) ≡ begins_with_magic block
 unfolding widened
 magic_stays (a ∷ b ∷ c ∷ d ∷ rest) long = refl
@@ -55,7 +55,7 @@ magic_stays (a ∷ b ∷ []) long = absurd (omega arith)
 magic_stays (a ∷ []) long = absurd (omega arith)
 magic_stays [] long = absurd (omega arith)
 
--- a superblock that is accepted is so with them
+-- an accepted superblock of 32-bit numbers stays accepted
 pub widened_accepted : (shape : Shape) (block : List ℕ) → 0x28 ≤ length block → (super_in block).s_feature_incompat ≡ revoke_feature →
     super_refusal shape block ≡ None → super_refusal shape (widened block) ≡ None
 widened_accepted shape block long is_narrow accepted =

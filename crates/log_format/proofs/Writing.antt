@@ -1,4 +1,4 @@
--- Writing a block from its beginning on: what stands there so far, and zeros behind it in the end.
+-- Writing a block from its beginning on, with zeros at the end.
 use Rattle.std.proofs.Common.{refl, ap, sym, ◌∙◌, arith, append_assoc, append-nil, drop-drop, drop_at, get_or, le_of_eq, le_trans, length-append, length-take, length-drop}
 use Rattle.std.specs.Prelude.{◌≡◌, ℕ, ◌+◌, ◌-◌, ◌*◌, ◌<◌, ◌≤◌, Bool, true, false, if◌then◌else◌, List, [], ◌∷◌, ◌++◌, length, take, drop, replicate, All}
 use Rattle.std.specs.List.{flat_map}
@@ -13,7 +13,7 @@ use Rattle.log_format.specs.Size.{FitDescriptor}
 use Rattle.log_model.proofs.OwnTextHeader.{HasMeasures, measures, tags_fit}
 use Rattle.log_model.proofs.OwnTextTags.{length-tag_spelling}
 
--- zeros behind what is written fill up the block
+-- zeros after what is written fill the block
 pub filled : (block written zeros : List ℕ) (at : ℕ) →
     at ≤ length block → take at block ≡ written → zeros ≡ replicate (length (take (length block - at) (drop at block))) 0 →
     put_mid at (length block - at) block zeros ≡ padded (length block) written
@@ -24,7 +24,7 @@ filled block written zeros at within here blank =
     let behind : drop (length block - at) (drop at block) ≡ [] = drop_all (length block - at) (drop at block) (omega (arith, length-drop at block)) in
     rw (here, behind, blank, append-nil, count) refl
 
--- bytes that are written behind those that stand there
+-- bytes written after those that stand there
 pub written_more : (block written bytes rest new : List ℕ) (at n : ℕ) →
     at ≤ length block → take at block ≡ written → new ≡ bytes ++ rest → length bytes ≡ n →
     take (at + n) (put_mid at (length block - at) block new) ≡ written ++ bytes
@@ -34,14 +34,14 @@ written_more block written bytes rest new at n within here is size =
     let grouped = append_assoc written bytes (rest ++ behind) in
     rw (here, is, append_assoc bytes rest behind, ← grouped) (take_at (written ++ bytes) (rest ++ behind) (at + n) long)
 
--- one more element, spelled behind the others
+-- one more element, spelled after the others
 pub spelled_more : {X : Type 0} (f : X → List ℕ) (front : List ℕ) (xs : List X) (i : ℕ) (x : X) → i < length xs → x ≡ get_or xs i x →
     (front ++ flat_map f (take i xs)) ++ f x ≡ front ++ flat_map f (take (i + 1) xs)
 spelled_more f front xs i x here is =
     flat_map_more f front (take i xs) x ∙ ap (λ y. front ++ flat_map f (take i xs ++ y ∷ [])) is
     ∙ ap (λ ys. front ++ flat_map f ys) (sym (take_more xs i x here))
 
--- tags without a UUID behind them
+-- the length of tags without a UUID
 length_same_uuid : (l : Layout) (uuid : List ℕ) (tags : List Tag) → 4 ≤ l.number_bytes →
     length uuid ≡ uuid_bytes → All (λ t. t.same_uuid ≡ true) tags →
     length (flat_map (tag_spelling l uuid) tags) ≡ length tags * tag_bytes l
@@ -52,7 +52,7 @@ length_same_uuid l uuid (t ∷ ts) small size same =
     let no_uuid : uuid_behind t ≡ 0 = rw (All-head (λ t. t.same_uuid ≡ true) t ts same) refl in
     length-append (tag_spelling l uuid t) (flat_map (tag_spelling l uuid) ts) ∙ omega (arith, this, others, no_uuid)
 
--- the tags that the writer puts into one descriptor
+-- the length of the tags that the writer puts into one descriptor
 pub length_tags : (l : Layout) (uuid : List ℕ) (tags : List Tag) → 4 ≤ l.number_bytes →
     length uuid ≡ uuid_bytes → All (λ t. t.same_uuid ≡ true) (drop 1 tags) →
     length (flat_map (tag_spelling l uuid) tags) ≤ length tags * tag_bytes l + 16
@@ -67,7 +67,7 @@ length_tags l uuid (t ∷ ts) small size same =
     at_most true = omega arith
     at_most false = omega arith
 
--- the next tag fits behind those that are written
+-- the next tag fits after the written ones
 pub tag_fits : (l : Layout) (uuid : List ℕ) (i : ℕ) (tags : List Tag) (t : Tag) → IsLayout l →
     length uuid ≡ uuid_bytes → FitDescriptor l tags → i < length tags → t ≡ get_or tags i t →
     12 + length (flat_map (tag_spelling l uuid) (take i tags)) + (tag_bytes l + uuid_behind t) ≤ l.block_size
@@ -80,7 +80,7 @@ tag_fits l uuid i tags t taken long fit here is =
     rw (← is) (length-tag_spelling l uuid t m.small long) in
     omega (arith, few, all, next, this)
 
--- bytes that are written at a place leave those before and behind as they were
+-- bytes written at a place leave those before and after
 pub written_over : (block bytes new : List ℕ) (at n : ℕ) →
     at ≤ length block → new ≡ bytes ++ drop n (take (length block - at) (drop at block)) →
     put_mid at (length block - at) block new ≡ take at block ++ (bytes ++ drop (at + n) block)
@@ -88,7 +88,7 @@ written_over block bytes new at n within is =
     let behind : drop (length block - at) (drop at block) ≡ [] = drop_all (length block - at) (drop at block) (omega (arith, length-drop at block)) in
     rw (is, behind, append-nil, take_rest, drop-drop) refl
 
--- two numbers that are written one behind the other
+-- two numbers written in a row
 pub written_twice : (block between a b : List ℕ) (at n : ℕ) →
     at + n ≤ length block → length a ≡ n → between ≡ take at block ++ (a ++ drop (at + n) block) →
     take (at + n) between ++ (b ++ drop (at + n + n) between) ≡ ((take at block ++ a) ++ b) ++ drop (at + n + n) block

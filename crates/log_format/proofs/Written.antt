@@ -19,12 +19,12 @@ length-tags_from : (first : Bool) (copies : List (ℕ × List ℕ)) → length (
 length-tags_from first [] = refl
 length-tags_from first (c ∷ cs) = ap suc (length-tags_from false cs)
 
--- tags behind the first have its UUID
+-- tags after the first have the same-UUID flag
 later_tags : (copies : List (ℕ × List ℕ)) → All (λ t. t.same_uuid ≡ true) (tags_from false copies)
 later_tags [] = All-nil (λ t. t.same_uuid ≡ true)
 later_tags (c ∷ cs) = All-cons (λ t. t.same_uuid ≡ true) _ (tags_from false cs) refl (later_tags cs)
 
--- so only the first is without the flag that says so
+-- only the first tag lacks it
 one_uuid : (copies : List (ℕ × List ℕ)) → All (λ t. t.same_uuid ≡ true) (drop 1 (tags_from true copies))
 one_uuid [] = All-nil (λ t. t.same_uuid ≡ true)
 one_uuid (c ∷ cs) = later_tags cs
@@ -49,7 +49,7 @@ tags_from-fit l copies few below =
       spelled = tags_below (every_number l) true copies below;
     }
 
--- a revoke block without numbers
+-- a revoke block without numbers is one
 none_revoked : (l : Layout) (count sequence : ℕ) → IsLayout l → sequence < 2 ^ 32 → IsRevokeBlock l count sequence (revoke_block l sequence []) []
 unfolding revoke_block padded
 none_revoked l count sequence is small =
@@ -63,11 +63,11 @@ none_revoked l count sequence is small =
       below = All-nil (λ b. b < count);
     }
 
--- a number that is allowed is below both counts, so below the lesser one
+-- an allowed number is below both counts, so below the lesser one
 below_lesser : (l : Layout) (count b : ℕ) → IsAllowedBlock l count b → b < min count (every_number l)
 below_lesser l count b allowed = le-min allowed.in_home allowed.spelled
 
--- a revoke block of a few numbers below a count that the layout can spell is one of them
+-- a few numbers below a spellable count make a revoke block
 few_revoked : (l : Layout) (count sequence : ℕ) (numbers : List ℕ) →
     IsLayout l → count ≤ every_number l → sequence < 2 ^ 32 →
     length numbers ≤ numbers_of l → All (λ b. b < count) numbers →
@@ -76,7 +76,7 @@ few_revoked l count sequence [] is spelled small few below = none_revoked l coun
 few_revoked l count sequence (n ∷ ns) is spelled small few below =
     revoke_block_is l count sequence (n ∷ ns) is spelled small (record { some = omega arith; most = few; each = below })
 
--- a revoke block for a home area is one for a greater home area
+-- a revoke block stays one for a greater home area
 more_home_revoked : (l : Layout) (count less sequence : ℕ) (block numbers : List ℕ) →
     less ≤ count → IsRevokeBlock l less sequence block numbers → IsRevokeBlock l count sequence block numbers
 more_home_revoked l count less sequence block numbers le is =
@@ -88,7 +88,7 @@ more_home_revoked l count less sequence block numbers le is =
       below = All-weaker (λ b. b < less) (λ b. b < count) (λ b h. omega arith) numbers is.below;
     }
 
--- a revoke block of a few numbers is one of them
+-- the revoke block of a few allowed numbers is one of them
 pub numbers_revoked : (l : Layout) (count sequence : ℕ) (numbers : List ℕ) →
     IsLayout l → sequence < 2 ^ 32 →
     length numbers ≤ numbers_of l → All (IsAllowedBlock l count) numbers →

@@ -1,10 +1,9 @@
--- What an opening may rely on in a superblock that is not refused.
+-- What an opening may rely on in an accepted superblock.
 use Rattle.std.specs.Prelude.{◌≡◌, ◌⊎◌, ℕ, ◌+◌, ◌<◌, ◌≤◌}
 use Rattle.log_model.specs.Superblock.{Super, greatest_length, least_length, least_ring}
 use Rattle.log_format.specs.Size.{IsBlockSize}
 
--- the log has the device's block size, which is one that a log may have, and lies within the log area, and its ring
--- lies behind the superblock
+-- the device's block size, within the log area, and the ring after the superblock
 pub record IsAccepted (block_size log_blocks : ℕ) (s : Super) : Type 0 where
   pub allowed : IsBlockSize block_size
   pub size : s.s_blocksize ≡ block_size

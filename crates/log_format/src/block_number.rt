@@ -1,17 +1,16 @@
-//! The numbers of home blocks, as they stand in descriptors and revoke blocks: in 4 or in 8 bytes.
+//! How home block numbers stand in descriptors and revoke blocks: in 4 or 8 bytes.
 ghost use Rattle.std.specs.Prelude.{◌≡◌, ◌+◌, ◌-◌, ◌*◌, ◌/◌, ◌^◌, ◌++◌, ◌<◌, ◌≤◌, drop, length, nat_le, unwrap_or};
 ghost use Rattle.journal_model.specs.Layout.{IsLayout, big_endian, every_number, number_at, tag_bytes};
 
 use byteorder::{BigEndian, ByteOrder};
 use journal_model::LogLayout;
 
-/// Bytes of a number of 32 bits, and of each half of one of 64.
+/// Bytes of a 32-bit number, and of half of a 64-bit one.
 const HALF_BYTES: usize = 4;
 
-/// Where the high half of a tag's number stands.
+/// The place of the high half of a tag's number.
 const HIGH_HALF_PLACE: usize = 8;
 
-/// The lower four bytes of a number.
 pub(crate) fn low_half(number: u64) -> u32
     ensures { big_endian 4 result ≡ big_endian 4 number }
 {
@@ -45,8 +44,7 @@ pub(crate) fn read_whole(layout: LogLayout, bytes: &[u8]) -> u64
     }
 }
 
-/// Writes what a tag has of its block's number above the lower four bytes over the first bytes, where the layout has
-/// such bytes.
+/// Writes the high half of a tag's number, if the layout has one.
 pub(crate) fn write_high_half(layout: LogLayout, bytes: &mut [u8], number: u64)
     requires taken { IsLayout layout }
     requires room { layout.number_bytes - 4 ≤ length bytes.old }
@@ -57,7 +55,7 @@ pub(crate) fn write_high_half(layout: LogLayout, bytes: &mut [u8], number: u64)
     }
 }
 
-/// The number of the block that a tag names, which bytes begin with.
+/// The block number of the tag at the front.
 pub(crate) fn read_tag_number(layout: LogLayout, bytes: &[u8]) -> u64
     requires taken { IsLayout layout }
     requires room { tag_bytes layout ≤ length bytes.now }
@@ -71,7 +69,7 @@ pub(crate) fn read_tag_number(layout: LogLayout, bytes: &[u8]) -> u64
     low + (u64::from(BigEndian::read_u32(&bytes[HIGH_HALF_PLACE..])) << 32)
 }
 
-/// Whether a number is that of no block in a home area of so many blocks. Where their count is not known, none is.
+/// Whether the number is at or above a known count of home blocks.
 pub(crate) fn is_outside(number: u64, home_blocks: Option<u64>) -> bool
     ensures { result ≡ nat_le (unwrap_or home_blocks (number + 1)) number }
 {

@@ -1,4 +1,4 @@
-//! The commit block.
+//! What a commit block is, and how it is written.
 ghost use Rattle.std.specs.Prelude.{◌≡◌, length};
 ghost use Rattle.journal_model.specs.Layout.{Layout};
 ghost use Rattle.log_model.specs.OwnText.{commit_block};
@@ -7,13 +7,13 @@ ghost use Rattle.log_format.specs.Size.{IsBlockSize};
 use crate::Header;
 use journal_model::layout::{COMMIT_TYPE, HEADER_BYTES};
 
-/// A commit block: it ends a transaction. Nothing behind its header is read.
+/// A commit block, which ends a transaction. Nothing after its header is read.
 /// Source: journal.rst, "Commit Block".
 pub struct CommitBlock;
 
 impl CommitBlock {
-    /// Writes a commit block over all of `block`, which has 1024, 2048 or 4096 bytes: the header, with the number
-    /// `sequence` of the transaction, and zeros behind it, in each layout of such blocks.
+    /// Writes a commit block over all of `block` (1024, 2048 or 4096 bytes, in either layout), for the
+    /// transaction number `sequence`.
     /// Source: journal.rst, "Commit Block".
     pub fn write(block: &mut [u8], sequence: u32)
         requires { IsBlockSize (length block.old) }

@@ -1,4 +1,4 @@
-//! The descriptor block: its tags, written and read.
+//! How the tags of a descriptor block are written and read.
 ghost use Rattle.std.specs.Prelude.{ℕ, ◌≡◌, ◌<◌, ◌≤◌, ◌+◌, ◌++◌, length, take, drop, List, MatchResult};
 ghost use Rattle.log_model.specs.declared.log.Tag.{Tag};
 ghost use Rattle.journal_model.specs.Layout.{descriptor_type, every_number, sequence_in, tag_bytes, HasHeader, IsLayout};
@@ -12,25 +12,22 @@ use journal_model::layout::{DESCRIPTOR_TYPE, HEADER_BYTES, UUID_BYTES};
 use journal_model::{BlockNo, LogLayout};
 use log_model::Tag;
 
-/// Flag: the copy is escaped.
 const ESCAPED: u16 = 1;
 
-/// Flag: no UUID follows the tag.
+/// No UUID follows the tag.
 const SAME_UUID: u16 = 2;
 
-/// Flag: it is the last tag of its descriptor.
+/// The last tag of its descriptor.
 const LAST: u16 = 8;
 
-/// A descriptor block: it says which home blocks the copies behind it in the log belong to.
+/// A descriptor block names the home blocks of the copies that follow it.
 /// Source: journal.rst, "Descriptor Block".
 pub struct Descriptor;
 
 impl Descriptor {
-    /// Writes a descriptor over all of `block`, a block of this layout: the header, with the number `sequence` of the
-    /// transaction, the tags `tags` in their order, and zeros behind them. The journal's UUID `uuid` stands behind each tag
-    /// without the same-UUID flag. There are at most as many tags as the writer puts into one descriptor (by block size 122, 250
-    /// or 506, with numbers of 64 bits 81, 167 or 337), all behind the first have that flag, and the layout can spell each home
-    /// block.
+    /// Writes a descriptor of the transaction `sequence` over all of `block`, with the tags in order. The UUID `uuid` follows
+    /// each tag without the same-UUID flag, which all but the first have. The tags fit one descriptor (at most 122, 250 or 506
+    /// by block size; with 64-bit numbers 81, 167 or 337), and the layout can spell each home block.
     /// Source: journal.rst, "Descriptor Block".
     pub fn write(layout: LogLayout, block: &mut [u8], uuid: &[u8; 16], sequence: u32, tags: &[Tag])
         requires taken { IsLayout layout }
@@ -50,15 +47,14 @@ impl Descriptor {
         block[at..].fill(0);
     }
 
-    /// Reads the tags of a descriptor of this layout, whose header is that of one, into the first places of `tags`, which
-    /// has room for as many as a descriptor can have (by block size 126, 254 or 510, with numbers of 64 bits 84, 169 or 340). The
-    /// answer is how many there are, of which the last alone has the last flag.
+    /// Reads the tags of a descriptor, whose header was checked, into the first places of `tags`, and answers how many there
+    /// are. `tags` has room for the most tags (126, 254 or 510 by block size; with 64-bit numbers 84, 169 or 340); later places
+    /// are unspecified. Checksum fields, UUIDs and bytes after the last tag are not read.
     ///
-    /// The block is malformed where a tag, or the UUID behind one that is not the last, does not fit into it, where a
-    /// tag has a flag other than 1, 2 and 8, and where a home block is not below `home_blocks`, the blocks of the home
-    /// area; where they are not known, the number is not tested. A tag's checksum field is not read, the UUID's value is not
-    /// compared, and nothing behind the last tag is read. What `tags` holds behind the tags that were read, and where the block
-    /// is malformed, is not said.
+    /// # Errors
+    ///
+    /// `Malformed`, with all of `tags` unspecified: a tag, or the UUID after one that is not the last, does not fit; a tag has a
+    /// flag other than 1, 2 and 8; or a home block is not below `home_blocks`, if known.
     /// Source: journal.rst, "Descriptor Block"; all these tests are this project's own.
     pub fn read(
         layout: LogLayout,
@@ -90,8 +86,7 @@ impl Descriptor {
     }
 }
 
-/// Writes a tag over the first bytes, with the UUID behind it unless its flag says that it is the same, and answers
-/// how many bytes it takes.
+/// Writes a tag, with the UUID unless its same-UUID flag is set, and answers its bytes.
 fn write_tag(layout: LogLayout, bytes: &mut [u8], uuid: &[u8; 16], tag: &Tag) -> usize
     requires taken { IsLayout layout }
     requires room { tag_bytes layout + uuid_behind tag.now ≤ length bytes.old }
@@ -111,7 +106,6 @@ fn write_tag(layout: LogLayout, bytes: &mut [u8], uuid: &[u8; 16], tag: &Tag) ->
     end + UUID_BYTES
 }
 
-/// The flags of a tag as a number.
 fn flags_of(tag: &Tag) -> u16
     ensures { result ≡ flag_word tag.now }
 {
@@ -121,7 +115,6 @@ fn flags_of(tag: &Tag) -> u16
     escaped | same_uuid | last
 }
 
-/// How many bytes a tag takes, with the UUID that may follow it.
 fn spelled_bytes(layout: LogLayout, tag: &Tag) -> usize
     requires { IsLayout layout }
     ensures { result ≡ tag_bytes layout + uuid_behind tag.now }
@@ -134,8 +127,8 @@ fn spelled_bytes(layout: LogLayout, tag: &Tag) -> usize
     }
 }
 
-/// The tag that bytes begin with. It is malformed where its bytes are not there, where it has a flag other than 1, 2
-/// and 8, and where its home block is not below `home_blocks`, which are known. Its checksum field is not read.
+/// The tag at the front. It is malformed if its bytes are missing, it has a flag other than 1, 2 and 8, or its home block is not
+/// below a known `home_blocks`.
 fn read_tag(layout: LogLayout, bytes: &[u8], home_blocks: Option<u64>) -> Result<Tag, Malformed>
     requires { IsLayout layout }
     ensures { MatchResult result

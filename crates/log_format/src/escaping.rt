@@ -6,9 +6,8 @@ ghost use Rattle.log_format.specs.Size.{IsBlockSize};
 
 use journal_model::layout::MAGIC;
 
-/// Makes the bytes of a home block, `copy`, what stands for them in the log: where they begin with the magic, these
-/// four bytes become zeros. The answer says whether they did, which the copy's tag has to tell as its flag 1. The
-/// block has 1024, 2048 or 4096 bytes.
+/// Escapes a copy of 1024, 2048 or 4096 bytes: a magic at its front becomes zeros. Answers whether it did, for
+/// flag 1 of the copy's tag.
 /// Source: journal.rst, "Data Block".
 pub fn escape(copy: &mut [u8]) -> bool
     requires { IsBlockSize (length copy.old) }
@@ -22,9 +21,8 @@ pub fn escape(copy: &mut [u8]) -> bool
     begins
 }
 
-/// Makes what stands in the log for a copy, `copy`, the home block's bytes again: where `flag`, the flag 1 of the
-/// copy's tag, is set, the magic becomes the first four bytes, whatever they were. The block has 1024, 2048 or 4096
-/// bytes.
+/// Unescapes a stored copy of 1024, 2048 or 4096 bytes: if `flag`, flag 1 of its tag, is set, the magic replaces
+/// its first four bytes.
 /// Source: journal.rst, "Data Block".
 pub fn unescape(copy: &mut [u8], flag: bool)
     requires { IsBlockSize (length copy.old) }

@@ -1,24 +1,23 @@
-//! The header that each of the log's own blocks begins with.
+//! How headers of the log's own blocks are read and written.
 ghost use Rattle.std.specs.Prelude.{◌≡◌, ◌≤◌, ◌++◌, true, false, length, drop, MatchOption};
 ghost use Rattle.journal_model.specs.Layout.{begins_with_magic, header, header_bytes, sequence_in, type_in};
 
 use byteorder::{BigEndian, ByteOrder};
 use journal_model::layout::MAGIC;
 
-/// The header that the superblock and each descriptor, commit and revoke block begins with.
+/// The header of the superblock and of each descriptor, commit and revoke block.
 /// Source: journal.rst, "Block Header".
 #[derive(Clone, Copy)]
 pub struct Header {
-    /// What the block is: 1 a descriptor, 2 a commit block, 4 a superblock, 5 a revoke block.
+    /// 1 a descriptor, 2 a commit block, 4 a superblock, 5 a revoke block.
     pub block_type: u32,
-    /// The number of the transaction that the block belongs to. A superblock belongs to none: its sequence is written
-    /// as 0, and is not tested when it is read.
+    /// The number of the block's transaction. In a superblock it is written as 0, and not tested.
     pub sequence: u32,
 }
 
 impl Header {
-    /// Reads the header of a log block, `block`, which has at least the 12 bytes of a header. The answer is `None`
-    /// exactly where the block does not begin with the magic; the type and the sequence are not tested.
+    /// The header of a log block of at least 12 bytes; `None` exactly if it does not begin with the magic. Type
+    /// and sequence are not tested.
     /// Source: journal.rst, "Block Header".
     pub fn read(block: &[u8]) -> Option<Header>
         requires { header_bytes ≤ length block.now }
@@ -34,7 +33,6 @@ impl Header {
         })
     }
 
-    /// Writes the header over the first 12 bytes of a block.
     pub(crate) fn write(self, block: &mut [u8])
         requires { header_bytes ≤ length block.old }
         ensures { block.new ≡ header self.block_type self.sequence ++ drop header_bytes block.old }

@@ -1,4 +1,4 @@
-//! What is written is read back. Each function states a law of the words in `specs/`, and has no body to run.
+//! What is written is read back. Each function states one law; no body runs.
 ghost use Rattle.std.specs.Prelude.{◌≡◌, ◌⊎◌, ℕ, ◌^◌, ◌<◌, ◌≤◌, true, Bool, List, length, None, All};
 ghost use Rattle.log_model.specs.declared.log.Tag.{Tag};
 ghost use Rattle.journal_model.specs.Block.{IsAllowedBlock};
@@ -11,14 +11,14 @@ ghost use Rattle.log_model.specs.Superblock.{Super, formatted_super, features_of
 ghost use Rattle.log_model.specs.Text.{IsCommitBlock};
 ghost use Rattle.log_format.specs.Size.{FitDescriptor, FitRevokeBlock, IsBlockSize};
 
-/// The tags that the writer makes of some copies, of which there are not too many, fit one descriptor.
+/// The tags of copies fit one descriptor, if there are not too many.
 pub fn the_writers_tags_fit()
     ensures { (l : Layout) (copies : List (ℕ × List ℕ)) →
         length copies ≤ tags_of l → All (λ c. c.0 < every_number l) copies →
         FitDescriptor l (tags_from true copies) }
 {}
 
-/// The descriptor that is written of them is a well-formed one, with these tags.
+/// A descriptor written of copies is well formed, with their tags.
 pub fn a_written_descriptor_is_one()
     ensures { (l : Layout) (count sequence : ℕ) (uuid : List ℕ) (copies : List (ℕ × List ℕ)) →
         IsLayout l → length uuid ≡ uuid_bytes → sequence < 2 ^ 32 →
@@ -26,7 +26,7 @@ pub fn a_written_descriptor_is_one()
         IsDescriptor l count sequence (descriptor_block l uuid sequence (tags_from true copies)) (tags_from true copies) }
 {}
 
-/// The revoke block that is written of some numbers is a well-formed one, with these numbers.
+/// A revoke block written of numbers is well formed, with these numbers.
 pub fn a_written_revoke_block_is_one()
     ensures { (l : Layout) (count sequence : ℕ) (numbers : List ℕ) →
         IsLayout l → sequence < 2 ^ 32 →
@@ -34,13 +34,12 @@ pub fn a_written_revoke_block_is_one()
         IsRevokeBlock l count sequence (revoke_block l sequence numbers) numbers }
 {}
 
-/// The commit block that is written has its header.
+/// A written commit block has its header.
 pub fn a_written_commit_block_is_one()
     ensures { (l : Layout) (sequence : ℕ) → sequence < 2 ^ 32 → IsCommitBlock sequence (commit_block l sequence) }
 {}
 
-/// A block can be read in one way only: as a descriptor with one list of tags, and as a revoke block with one list of
-/// numbers.
+/// A block has one reading as a descriptor, and one as a revoke block.
 pub fn one_reading()
     ensures descriptor { (l : Layout) (count sequence : ℕ) (block : List ℕ) (tags others : List Tag) →
         IsDescriptor l count sequence block tags → IsDescriptor l count sequence block others → tags ≡ others }
@@ -49,7 +48,7 @@ pub fn one_reading()
         IsRevokeBlock l count sequence block numbers → IsRevokeBlock l count sequence block others → numbers ≡ others }
 {}
 
-/// The superblock of an empty log says what it was formatted with.
+/// The superblock of an empty log has the fields of its format.
 pub fn a_formatted_superblock_says_its_fields()
     ensures { (size maxlen : ℕ) (uuid : List ℕ) (is_wide : Bool) →
         IsBlockSize size → maxlen < 2 ^ 32 → length uuid ≡ uuid_bytes →
@@ -68,7 +67,7 @@ pub fn a_formatted_superblock_says_its_fields()
         } in super_in (formatted_super size maxlen uuid is_wide) ≡ fields }
 {}
 
-/// It is taken, where the length is one that is and the log area has as many blocks.
+/// It is accepted, if its length is allowed and fits the log area.
 pub fn a_formatted_superblock_is_accepted()
     ensures { (size maxlen log_blocks home_blocks : ℕ) (uuid : List ℕ) (is_wide : Bool) →
         IsBlockSize size → least_length ≤ maxlen → maxlen ≤ greatest_length → maxlen ≤ log_blocks → length uuid ≡ uuid_bytes →
@@ -76,14 +75,14 @@ pub fn a_formatted_superblock_is_accepted()
         super_refusal shape (formatted_super size maxlen uuid is_wide) ≡ None }
 {}
 
-/// A superblock with another s_sequence and s_start says these, and else what it said before.
+/// A new tail changes only s_sequence and s_start.
 pub fn a_new_tail_changes_two_fields()
     ensures { (block : List ℕ) (sequence start : ℕ) →
         IsBlockSize (length block) → sequence < 2 ^ 32 → start < 2 ^ 32 →
         super_in (with_tail block sequence start) ≡ record (super_in block) { s_sequence = sequence; s_start = start } }
 {}
 
-/// A new tail leaves an accepted superblock accepted, where the log is then clean or begins in its ring.
+/// A new tail keeps a superblock accepted, if the log is then clean or begins in its ring.
 pub fn a_new_tail_is_accepted()
     ensures { (shape : Shape) (block : List ℕ) (sequence start : ℕ) →
         IsBlockSize (length block) → super_refusal shape block ≡ None →
@@ -91,20 +90,20 @@ pub fn a_new_tail_is_accepted()
         super_refusal shape (with_tail block sequence start) ≡ None }
 {}
 
-/// Of two new tails, one after the other, the last one counts.
+/// The last of two new tails counts.
 pub fn a_new_tail_replaces_the_last()
     ensures { (block : List ℕ) (last_sequence last_start sequence start : ℕ) →
         IsBlockSize (length block) →
         with_tail (with_tail block last_sequence last_start) sequence start ≡ with_tail block sequence start }
 {}
 
-/// A superblock with the features of a log whose block numbers have 64 bits says these, and else what it said before.
+/// Widening changes only the incompatible features.
 pub fn a_widened_superblock_changes_one_field()
     ensures { (block : List ℕ) → IsBlockSize (length block) →
         super_in (widened block) ≡ record (super_in block) { s_feature_incompat = wide_features } }
 {}
 
-/// It is accepted, where that of a log whose block numbers have 32 bits was.
+/// A superblock of 32-bit block numbers stays accepted when widened.
 pub fn a_widened_superblock_is_accepted()
     ensures { (shape : Shape) (block : List ℕ) →
         IsBlockSize (length block) → super_refusal shape block ≡ None → (super_in block).s_feature_incompat ≡ revoke_feature →

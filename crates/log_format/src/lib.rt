@@ -1,6 +1,6 @@
-//! The bytes of every block of the log. Each block is read from, and written into, a buffer of the caller, and nothing
-//! here takes memory. The contracts are stated by the definitions of `journal_model` and `log_model`, for logs whose block
-//! numbers have 32 or 64 bits and whose blocks have 1024, 2048 or 4096 bytes.
+//! The bytes of every block of the log, read from and written into buffers of the caller, without memory.
+//!
+//! Block numbers have 32 or 64 bits, and blocks 1024, 2048 or 4096 bytes.
 #![tactic(auto)]
 
 mod block_number;

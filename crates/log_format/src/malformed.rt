@@ -1,9 +1,8 @@
-//! That a block is not well formed.
+//! The error of a block that is not well formed.
 use std::error::Error;
 use std::fmt::{self, Display, Formatter, Write};
 
-/// A descriptor or revoke block is not well formed, by tests that are this project's own. The caller knows at which
-/// place of the log it stands.
+/// A descriptor or revoke block is not well formed, by tests that are this project's own.
 #[derive(Clone, Copy, Debug, PartialEq, Eq)]
 pub struct Malformed;
 

@@ -1,4 +1,4 @@
-//! The revoke block: its numbers, written and read.
+//! How the numbers of a revoke block are written and read.
 ghost use Rattle.std.specs.Prelude.{ℕ, ◌≡◌, ◌<◌, ◌≤◌, ◌+◌, length, take, List, MatchResult};
 ghost use Rattle.journal_model.specs.Layout.{numbers_of, revoke_type, sequence_in, HasHeader, IsLayout};
 ghost use Rattle.log_model.specs.RevokeBlock.{IsRevokeBlock, revoke_block};
@@ -10,16 +10,13 @@ use byteorder::{BigEndian, ByteOrder};
 use journal_model::layout::{HEADER_BYTES, REVOKE_HEADER_BYTES, REVOKE_TYPE};
 use journal_model::{BlockNo, LogLayout};
 
-/// A revoke block: it names home blocks of which no copy is to be replayed that stands in its own transaction or in an
-/// earlier one. Copies in later transactions are not touched by it.
+/// A revoke block: no copy of the home blocks that it names may be replayed from its own or an earlier transaction.
 /// Source: journal.rst, "Revocation Block".
 pub struct RevokeBlock;
 
 impl RevokeBlock {
-    /// Writes a revoke block over all of `block`, a block of this layout: the header, with the number `sequence` of the
-    /// transaction, the count of bytes in use, the numbers of the home blocks `numbers` in their order, and zeros behind
-    /// them. There are at most as many numbers as fit (by block size 252, 508 or 1020, of 64 bits 126, 254 or 510), and the
-    /// layout can spell each.
+    /// Writes a revoke block of the transaction `sequence` over all of `block`, with `numbers` in order. They fit one block (at
+    /// most 252, 508 or 1020 by block size; with 64-bit numbers 126, 254 or 510), and the layout can spell each.
     /// Source: journal.rst, "Revocation Block".
     pub fn write(layout: LogLayout, block: &mut [u8], sequence: u32, numbers: &[BlockNo])
         requires taken { IsLayout layout }
@@ -42,14 +39,14 @@ impl RevokeBlock {
         block[at..].fill(0);
     }
 
-    /// Reads the numbers of a revoke block of this layout, whose header is that of one, into the first places of
-    /// `numbers`, which has room for as many as a block can hold (by block size 252, 508 or 1020, of 64 bits 126, 254 or 510).
-    /// The answer is how many there are, which may be none.
+    /// Reads the numbers of a revoke block, whose header was checked, into the first places of `numbers`, and answers how many
+    /// there are, maybe 0. `numbers` has room for the most (252, 508 or 1020 by block size; with 64-bit numbers 126, 254 or
+    /// 510); later places are unspecified.
     ///
-    /// The block is malformed where its count of bytes in use is below 16, above the block size, or not 16 and a
-    /// multiple of a number's bytes, and where a number is not below `home_blocks`, the blocks of the home area; where they are
-    /// not known, the numbers are not tested. What `numbers` holds behind the numbers that were read, and where the block is
-    /// malformed, is not said.
+    /// # Errors
+    ///
+    /// `Malformed`, with all of `numbers` unspecified: the count of used bytes is below 16, above the block size, or not 16 and
+    /// a multiple of a number's bytes; or a number is not below `home_blocks`, if known.
     /// Source: journal.rst, "Revocation Block"; all these tests are this project's own.
     pub fn read(
         layout: LogLayout,

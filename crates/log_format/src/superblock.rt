@@ -1,4 +1,4 @@
-//! The superblock: its fields, the tests of an opening, and what is written of it.
+//! Which superblocks an opening accepts, and how one is written.
 ghost use Rattle.std.specs.Prelude.{ℕ, ◌≡◌, ◌≤◌, ◌-◌, ◌==◌, ◌&&◌, ◌||◌, nat_le, nat_lt, length, IfOk, MatchResult, Some, None};
 ghost use Rattle.journal_model.specs.Layout.{super_type, type_in};
 ghost use Rattle.log_model.specs.Opening.{layout_of};
@@ -13,40 +13,36 @@ use journal_model::layout::{GREATEST_LENGTH, LEAST_LENGTH, MAGIC, SUPER_TYPE};
 use journal_model::{JournalError, LogLayout};
 use std::marker::Model;
 
-/// The incompatible feature that each log has: revoke blocks.
+/// The incompatible feature of each log: revoke blocks.
 const REVOKE_FEATURE: u32 = 1;
 
-/// The incompatible features of a log whose block numbers have 64 bits.
+/// The incompatible features of a log of 64-bit block numbers.
 const WIDE_FEATURES: u32 = 3;
 
-/// The fewest blocks of a ring.
 const LEAST_RING: u32 = 16;
 
-/// The fields of a superblock, under the names that jbd2 gives them.
+/// The fields of a superblock, by their names in jbd2.
 /// Source: journal.rst, "Super Block".
 #[derive(Clone, Copy)]
 pub struct Super {
     /// Bytes in a block.
     pub s_blocksize: u32,
-    /// Blocks in the log, the superblock among them.
+    /// Blocks in the log, with the superblock.
     pub s_maxlen: u32,
     /// The first block of the ring.
     pub s_first: u32,
-    /// The number of the first transaction in the log. In a clean log, the number before that of the next transaction.
+    /// The number of the log's first transaction; in a clean log, the number before the next one.
     pub s_sequence: u32,
-    /// The block of the log where it begins, or 0 where the log is clean.
+    /// The log block where it begins; 0 in a clean log.
     pub s_start: u32,
     /// An error that a journal noted, or 0.
     pub s_errno: u32,
-    /// Compatible features.
     pub s_feature_compat: u32,
-    /// Incompatible features.
     pub s_feature_incompat: u32,
-    /// Features that are compatible for reading alone.
+    /// Compatible for reading only.
     pub s_feature_ro_compat: u32,
-    /// The journal's UUID.
     pub s_uuid: [u8; 16],
-    /// How many file systems use the log.
+    /// The number of file systems that use the log.
     pub s_nr_users: u32,
 }
 
@@ -61,17 +57,21 @@ impl Model for Super {
 }
 
 impl Super {
-    /// Reads the superblock from block 0 of a log, `block`, which has as many bytes as the device's blocks, whatever
-    /// their size. The log area has `log_blocks` blocks.
+    /// Reads the superblock from `block`, block 0 of a log and one device block long, with `log_blocks` blocks in the log area.
+    /// Neither s_sequence nor the header's sequence is tested.
     ///
-    /// A log area without a block is `BadLength`, whatever `block` holds. Else the first of these that is so is the
-    /// answer: the block does not begin with the magic (`BadMagic`), its type is not 4 (`BadType`), s_blocksize is
-    /// not 1024, 2048 or 4096 or not the device's block size (`BadBlockSize`), s_maxlen is below 17, above 1,048,576 or above
-    /// `log_blocks` (`BadLength`), s_first is 0 or leaves fewer than 16 blocks for the ring (`BadFirst`), a feature
-    /// other than revoke blocks is set, that one is not, or there is not one user (`BadFeature`), s_start is neither 0
-    /// nor in the ring (`BadStart`), s_errno is not 0 (`ErrnoSet`).
-    /// Nothing else is tested: any number stands for s_sequence, and the sequence in the block's header, which is
-    /// written as 0, is not read.
+    /// # Errors
+    ///
+    /// A log area without a block is `BadLength`. Else the first that applies:
+    /// - `BadMagic`: the block does not begin with the magic;
+    /// - `BadType`: its type is not 4;
+    /// - `BadBlockSize`: s_blocksize is not 1024, 2048 or 4096, or not the device's;
+    /// - `BadLength`: s_maxlen is below 17, above 1,048,576 or above `log_blocks`;
+    /// - `BadFirst`: s_first is 0, or leaves fewer than 16 blocks for the ring;
+    /// - `BadFeature`: other features than revoke blocks, alone or with 64-bit numbers, or not exactly one user;
+    /// - `BadStart`: s_start is neither 0 nor in the ring;
+    /// - `ErrnoSet`: s_errno is not 0.
+    ///
     /// Source: journal.rst, "Super Block"; the limits and the order of the tests are this project's own.
     pub fn read(block: &[u8], log_blocks: u64) -> Result<Self, JournalError>
         ensures tests { (home_blocks : ℕ) →
@@ -114,10 +114,9 @@ impl Super {
         Ok(fields)
     }
 
-    /// Writes the superblock of an empty log over all of `block`, which has the block size that the log gets: 1024, 2048
-    /// or 4096 bytes. The log has `maxlen` blocks, the superblock among them, and the UUID `uuid`. Its ring
-    /// begins at block 1. Its s_sequence is 1, so that its first transaction will have the number 2: in a clean log the
-    /// next transaction has the number behind s_sequence.
+    /// Writes the superblock of an empty log over all of `block`, whose length (1024, 2048 or 4096 bytes) is the log's block size.
+    /// The log has `maxlen` blocks with the superblock, and its ring begins at block 1. s_sequence is 1, so the first transaction
+    /// gets the number 2.
     /// Source: journal.rst, "Super Block".
     pub fn format(block: &mut [u8], maxlen: u32, uuid: &[u8; 16], wide: bool)
         requires { IsBlockSize (length block.old) }
@@ -136,10 +135,9 @@ impl Super {
         block[0x44..].fill(0);
     }
 
-    /// Writes another s_sequence and s_start into a superblock of 1024, 2048 or 4096 bytes: the number `sequence` of the
-    /// first transaction in the log, and the block `start` of the log where it begins. Where the log is clean, `start`
-    /// is 0, and `sequence` is the number before that of the next transaction. Every other byte of the block stays as
-    /// it was.
+    /// Writes s_sequence and s_start into a superblock (1024, 2048 or 4096 bytes), and changes no other byte: the log's first
+    /// transaction and the log block where it begins. In a clean log `start` is 0, and `sequence` the number before the next
+    /// transaction's.
     /// Source: journal.rst, "Super Block".
     pub fn write(block: &mut [u8], sequence: u32, start: u32)
         requires { IsBlockSize (length block.old) }
@@ -149,8 +147,7 @@ impl Super {
         BigEndian::write_u32(&mut block[0x1c..], start);
     }
 
-    /// Writes the features of a log whose block numbers have 64 bits into a superblock of 1024, 2048 or 4096 bytes. Every other byte
-    /// of the block stays as it was.
+    /// Gives a superblock (1024, 2048 or 4096 bytes) the features of 64-bit block numbers, and changes no other byte.
     /// Source: this project's own.
     pub fn widen(block: &mut [u8])
         requires { IsBlockSize (length block.old) }
@@ -159,9 +156,8 @@ impl Super {
         BigEndian::write_u32(&mut block[0x28..], WIDE_FEATURES);
     }
 
-    /// The fields of a superblock, as they stand in the first 1024 bytes of a log, which is what `block` begins with.
-    /// Nothing is tested, not even that a superblock stands there: it is meant for reading s_blocksize where the block
-    /// size of a device is not known yet, and `Super::read` makes the tests.
+    /// The superblock fields in the first 1024 bytes of a log, untested: they tell s_blocksize if a device's block size is not
+    /// known. `Super::read` makes the tests.
     /// Source: journal.rst, "Super Block".
     pub fn fields(block: &[u8]) -> Self
         requires { 1024 ≤ length block.now }
@@ -184,7 +180,7 @@ impl Super {
         }
     }
 
-    /// Whether its features say that block numbers have 64 bits.
+    /// Whether block numbers have 64 bits.
     /// Source: journal.rst, "Super Block" (the features).
     pub fn has_wide_numbers(&self) -> bool
         ensures { result ≡ (self.now.s_feature_incompat == wide_features) }
@@ -205,7 +201,6 @@ impl Super {
         }
     }
 
-    /// The block size is one that is taken, and the device's.
     fn has_block_size(&self, block_size: usize) -> bool
         ensures { result ≡ (is_block_size self.now.s_blocksize && (self.now.s_blocksize == block_size)) }
     {
@@ -213,7 +208,6 @@ impl Super {
         is_block_size(size) && size == block_size
     }
 
-    /// The length is one that is taken, and the log area has as many blocks.
     fn has_length(&self, log_blocks: u64) -> bool
         ensures { result ≡ (nat_le least_length self.now.s_maxlen && nat_le self.now.s_maxlen greatest_length && nat_le self.now.s_maxlen log_blocks) }
     {
@@ -221,14 +215,12 @@ impl Super {
         LEAST_LENGTH <= maxlen && maxlen <= GREATEST_LENGTH && u64::from(maxlen) <= log_blocks
     }
 
-    /// The ring begins behind the superblock and has enough blocks.
     fn has_ring(&self) -> bool
         ensures { result ≡ (nat_lt 0 self.now.s_first && nat_le least_ring (self.now.s_maxlen - self.now.s_first)) }
     {
         0 < self.s_first && LEAST_RING <= self.s_maxlen.saturating_sub(self.s_first)
     }
 
-    /// The features are those that are taken, and one file system uses the log.
     fn has_features(&self) -> bool
         ensures { result ≡ ((self.now.s_feature_compat == 0) && (self.now.s_feature_ro_compat == 0) && ((self.now.s_feature_incompat == revoke_feature) || (self.now.s_feature_incompat == wide_features)) && (self.now.s_nr_users == 1)) }
     {
@@ -239,14 +231,12 @@ impl Super {
             && self.s_nr_users == 1
     }
 
-    /// The log is clean, or begins in the ring.
     fn has_start(&self) -> bool
         ensures { result ≡ ((self.now.s_start == 0) || (nat_le self.now.s_first self.now.s_start && nat_lt self.now.s_start self.now.s_maxlen)) }
     {
         self.s_start == 0 || (self.s_first <= self.s_start && self.s_start < self.s_maxlen)
     }
 
-    /// No journal noted an error.
     fn has_no_error(&self) -> bool
         ensures { result ≡ (self.now.s_errno == 0) }
     {
@@ -254,21 +244,19 @@ impl Super {
     }
 }
 
-/// The incompatible features of a log whose block numbers have 64 bits, or 32.
 fn features_of(wide: bool) -> u32
     ensures { result ≡ features_of wide }
 {
     if wide { WIDE_FEATURES } else { REVOKE_FEATURE }
 }
 
-/// The type in a block's header is that of a superblock. A block too short for a type has none.
+/// A block too short for a type has none.
 fn has_super_type(block: &[u8]) -> bool
     ensures { result ≡ (type_in block.now == super_type) }
 {
     block.len() >= 8 && BigEndian::read_u32(&block[4..]) == SUPER_TYPE
 }
 
-/// A block of a log may have this many bytes.
 fn is_block_size(size: usize) -> bool
     ensures { result ≡ is_block_size size }
 {

@@ -1,5 +1,6 @@
-//! Worked examples of the log's format, in a log with blocks of 1024 bytes whose UUID is sixteen bytes `aa`: what
-//! the words in `specs/` say of them, byte for byte. Each function states some of them, and has no body to run.
+//! What the format's definitions say of small examples, byte for byte.
+//!
+//! Blocks have 1024 bytes, and the UUID is sixteen bytes `aa`. No body runs.
 #![tactic(auto, unfolding(journal_model::specs::Layout::padded, log_model::specs::Descriptor::descriptor_block, log_model::specs::RevokeBlock::revoke_block, log_model::specs::OwnText::groups, log_model::specs::OwnText::commit_block, log_model::specs::OwnText::own_text, log_model::specs::Superblock::formatted_super))]
 
 ghost use Rattle.std.specs.Prelude.{◌≡◌, ◌++◌, ◌∷◌, [], drop, false, map, replicate, true};
@@ -13,8 +14,8 @@ ghost use Rattle.log_model.specs.OwnText.{own_text};
 ghost use Rattle.log_model.specs.Room.{IsCapacity, need};
 ghost use Rattle.log_model.specs.Superblock.{formatted_super};
 
-/// A tag is the number of its block, a checksum field of zeros and the flags. The UUID stands behind the first tag
-/// of a descriptor, which a sole tag is too.
+/// A tag is its block number, a checksum field of zeros, and the flags. The UUID follows the first tag of a
+/// descriptor.
 pub fn tags_as_spelled()
     ensures first { tag_spelling (narrow 1024) (replicate 16 0xaa)
         (record { block = 9; escaped = false; same_uuid = false; last = false })
@@ -33,7 +34,7 @@ pub fn tags_as_spelled()
         ≡ 0 ∷ 0 ∷ 0 ∷ 0x14 ∷ 0 ∷ 0 ∷ 0 ∷ 9 ∷ replicate 16 0xaa }
 {}
 
-/// With numbers of 64 bits a tag has the high half of its number behind the flags.
+/// With 64-bit numbers, the high half of a tag's number follows the flags.
 pub fn tags_of_64_bits_as_spelled()
     ensures first { tag_spelling (wide 1024) (replicate 16 0xaa)
         (record { block = 9; escaped = false; same_uuid = false; last = false })
@@ -46,7 +47,7 @@ pub fn tags_of_64_bits_as_spelled()
         ≡ 0 ∷ 0 ∷ 0 ∷ 5 ∷ 0 ∷ 0 ∷ 0 ∷ 8 ∷ 0 ∷ 0 ∷ 0 ∷ 1 ∷ replicate 16 0xaa }
 {}
 
-/// A transaction of two copies: one descriptor with both tags, the copies and a commit block.
+/// Two copies: one descriptor with both tags, the copies and a commit block.
 pub fn text_of_two_copies()
     ensures { own_text (narrow 1024) (replicate 16 0xaa) 2
         ((9, Copy (0x11 ∷ 0 ∷ 0 ∷ 0 ∷ 0 ∷ 0 ∷ 0 ∷ 0 ∷ [])) ∷ (10, Copy (0x22 ∷ 0 ∷ 0 ∷ 0 ∷ 0 ∷ 0 ∷ 0 ∷ 0 ∷ [])) ∷ [])
@@ -63,7 +64,7 @@ pub fn text_of_two_copies()
         } }
 {}
 
-/// A transaction of one copy: its tag is the first and the last one.
+/// One copy: its tag is the first and the last one.
 pub fn text_of_one_copy()
     ensures { own_text (narrow 1024) (replicate 16 0xaa) 2
         ((9, Copy (0x11 ∷ 0 ∷ 0 ∷ 0 ∷ 0 ∷ 0 ∷ 0 ∷ 0 ∷ [])) ∷ [])
@@ -78,7 +79,7 @@ pub fn text_of_one_copy()
         } }
 {}
 
-/// A transaction of one copy, of a block whose number has more than 32 bits.
+/// One copy of a block whose number has more than 32 bits.
 pub fn text_of_one_copy_of_a_far_block()
     ensures { own_text (wide 1024) (replicate 16 0xaa) 2
         ((4294967301, Copy (0x11 ∷ 0 ∷ 0 ∷ 0 ∷ 0 ∷ 0 ∷ 0 ∷ 0 ∷ [])) ∷ [])
@@ -93,8 +94,7 @@ pub fn text_of_one_copy_of_a_far_block()
         } }
 {}
 
-/// A copy that begins with the magic stands in the log with zeros there, and its tag says so. Replay makes the copy
-/// of it again.
+/// A copy that begins with the magic has zeros in the log, and its tag says so. The replay restores it.
 pub fn text_of_an_escaped_copy()
     ensures text { own_text (narrow 1024) (replicate 16 0xaa) 2
         ((20, Copy (0xc0 ∷ 0x3b ∷ 0x39 ∷ 0x98 ∷ 0 ∷ 0 ∷ 0 ∷ 7 ∷ [])) ∷ [])
@@ -110,7 +110,7 @@ pub fn text_of_an_escaped_copy()
     ensures replayed { unescaped true (0 ∷ 0 ∷ 0 ∷ 0 ∷ 0 ∷ 0 ∷ 0 ∷ 7 ∷ []) ≡ 0xc0 ∷ 0x3b ∷ 0x39 ∷ 0x98 ∷ 0 ∷ 0 ∷ 0 ∷ 7 ∷ [] }
 {}
 
-/// A transaction that revokes alone has a revoke block and a commit block, and no descriptor.
+/// Revokes alone: a revoke block and a commit block, without a descriptor.
 pub fn text_of_revokes()
     ensures one { own_text (narrow 1024) (replicate 16 0xaa) 3
         ((7, Revoke) ∷ [])
@@ -142,7 +142,7 @@ pub fn text_of_a_revoke_of_a_far_block()
         } }
 {}
 
-/// The revoke blocks stand before the descriptors, whatever came first in the transaction.
+/// Revoke blocks come before descriptors.
 pub fn text_of_a_revoke_and_a_copy()
     ensures { own_text (narrow 1024) (replicate 16 0xaa) 2
         ((5, Copy (0x11 ∷ 0 ∷ 0 ∷ 0 ∷ 0 ∷ 0 ∷ 0 ∷ 0 ∷ [])) ∷ (9, Revoke) ∷ [])
@@ -160,7 +160,7 @@ pub fn text_of_a_revoke_and_a_copy()
         } }
 {}
 
-/// Of 123 copies the last one has a descriptor of its own, whose tag has the UUID behind it too.
+/// The last of 123 copies has a descriptor of its own, with the UUID.
 pub fn text_of_123_copies()
     ensures { drop 1 (own_text (narrow 1024) (replicate 16 0xaa) 2 (map (λ b. (b, Copy (0x11 ∷ []))) (range_with_len 0 123))).pieces
         ≡ Copies
@@ -187,7 +187,7 @@ pub fn capacities_of_rings()
     ensures large_of_64_bits { IsCapacity (wide 1024) 1024 251 }
 {}
 
-/// The log blocks of transactions: a descriptor has room for 122 tags, and a revoke block for 252 numbers.
+/// The log blocks of transactions: a descriptor has room for 122 tags, a revoke block for 252 numbers.
 pub fn needs_of_transactions()
     ensures nothing { need (narrow 1024) 0 0 ≡ 1 }
     ensures one_revoke { need (narrow 1024) 0 1 ≡ 2 }
@@ -197,7 +197,7 @@ pub fn needs_of_transactions()
     ensures two_descriptors { need (narrow 1024) 123 0 ≡ 126 }
 {}
 
-/// With numbers of 64 bits a descriptor has room for 81 tags, and a revoke block for 126 numbers.
+/// With 64-bit numbers a descriptor has room for 81 tags, a revoke block for 126 numbers.
 pub fn needs_with_numbers_of_64_bits()
     ensures full_revoke_block { need (wide 1024) 0 126 ≡ 2 }
     ensures two_revoke_blocks { need (wide 1024) 0 127 ≡ 3 }
@@ -206,7 +206,7 @@ pub fn needs_with_numbers_of_64_bits()
     ensures two_unequal_descriptors { need (wide 1024) 123 0 ≡ 126 }
 {}
 
-/// The superblock of a log of 33 blocks that was just formatted.
+/// The superblock of a newly formatted log of 33 blocks.
 pub fn superblock_of_33_blocks()
     ensures { formatted_super 1024 33 (replicate 16 0xaa) false
         ≡ 0xc0 ∷ 0x3b ∷ 0x39 ∷ 0x98 ∷ 0 ∷ 0 ∷ 0 ∷ 4 ∷ 0 ∷ 0 ∷ 0 ∷ 0
@@ -219,7 +219,7 @@ pub fn superblock_of_33_blocks()
         ∷ replicate 956 0 }
 {}
 
-/// The same with block numbers of 64 bits: another feature is set.
+/// The same with 64-bit block numbers: one more feature is set.
 pub fn superblock_of_33_blocks_with_numbers_of_64_bits()
     ensures { formatted_super 1024 33 (replicate 16 0xaa) true
         ≡ 0xc0 ∷ 0x3b ∷ 0x39 ∷ 0x98 ∷ 0 ∷ 0 ∷ 0 ∷ 4 ∷ 0 ∷ 0 ∷ 0 ∷ 0

@@ -1,4 +1,4 @@
--- A ledger that can run can run after each step of a commit, and with a batch that it took.
+-- A ledger can run after each step of a commit, and with a batch that it took.
 use Rattle.std.proofs.Common.{arith, refl, sym, ap, subst, ◌∙◌}
 use Rattle.std.specs.Prelude.{◌≡◌, ◌≢◌, ℕ, ◌+◌, ◌^◌, ◌≤◌, false, true, Some, slice_get}
 use Rattle.journal_model.specs.declared.entry.Batch.{Batch}
@@ -30,7 +30,7 @@ call-at e (Blocks k) busy = (_, refl)
 call-at e CommitWrite busy = (_, refl)
 call-at e CommitFlush busy = (_, refl)
 
--- what is being committed stays, and where it stands
+-- the transaction being committed stays, and where it stands
 record Stands (old new : Engine) : Type 0 where
   layout : new.layout ≡ old.layout
   start : new.start ≡ old.start
@@ -39,7 +39,7 @@ record Stands (old new : Engine) : Type 0 where
   committed : new.committed ≡ old.committed
   released : new.released ≡ old.released
 
--- up to the last step
+-- this holds up to the last step
 stands-at : (e : Engine) (stage : Stage) → stage ≢ CommitFlush → Stands e (stepped_from e stage)
 stands-at e Idle before = record { layout = refl; start = refl; uuid = refl; accepted = refl; committed = refl; released = refl }
 stands-at e SuperblockWrite before = record { layout = refl; start = refl; uuid = refl; accepted = refl; committed = refl; released = refl }
@@ -48,7 +48,7 @@ stands-at e (Blocks k) before = record { layout = refl; start = refl; uuid = ref
 stands-at e CommitWrite before = record { layout = refl; start = refl; uuid = refl; accepted = refl; committed = refl; released = refl }
 stands-at e CommitFlush before = absurd (before refl)
 
--- a step before the last
+-- it can run after a step before the last
 pub steps-on : (shape : Shape) (l new : Ledger) → l.stage ≢ Idle → l.stage ≢ CommitFlush → engine_of shape new ≡ stepped (engine_of shape l) →
     new.ring ≡ l.ring → new.pending ≡ l.pending → new.kept.items ≡ l.kept.items → Runs shape l → Runs shape new
 steps-on shape l new busy before is ring pending kept runs =
@@ -64,7 +64,7 @@ steps-on shape l new busy before is ring pending kept runs =
       kept = kept-alike l new kept stands.released stands.accepted runs.kept;
     }
 
--- the last step
+-- it can run after the last step
 pub finishes : (shape : Shape) (l new : Ledger) (b : Batch) → l.stage ≡ CommitFlush → slice_get l.accepted.items l.committed ≡ Some b →
     engine_of shape new ≡ stepped_from (engine_of shape l) CommitFlush → new.ring ≡ l.ring → new.start ≡ l.ring.head →
     IsCommitted l.pending b.entries (l.first + l.committed) new.pending → ArePending new.pending → new.kept.items ≡ l.kept.items →
@@ -83,7 +83,7 @@ finishes shape l new b last stands is ring start commits kept same runs =
       kept = kept-alike l new same (ap (λ (x : Engine). x.released) is) (ap (λ (x : Engine). x.accepted) is) runs.kept;
     }
 
--- a batch that is taken
+-- it can run with a batch that it took
 pub takes-on : (shape : Shape) (l new : Ledger) (b : Batch) → l.aborted ≡ false → MayHandOver (engine_of shape l) b → HasRoom (engine_of shape l) b →
     engine_of shape new ≡ accepting (engine_of shape l) b → new.ring.head ≡ l.ring.head + needed_by l.layout b →
     new.pending ≡ l.pending → HasKept new → Runs shape l → Runs shape new
@@ -104,7 +104,7 @@ takes-on shape l new b running may room is head pending kept runs =
       kept = kept;
     }
 
--- where memory ran out the ledger can run as before
+-- if memory ran out, the ledger can run as before
 pub same-runs : (shape : Shape) (l new : Ledger) → engine_of shape new ≡ engine_of shape l → new.ring ≡ l.ring → new.pending ≡ l.pending →
     HasKept new → Runs shape l → Runs shape new
 same-runs shape l new is ring pending kept runs = record {
@@ -118,7 +118,7 @@ same-runs shape l new is ring pending kept runs = record {
   kept = kept;
 }
 
--- what there is room for fits the ring, so it has few entries
+-- a batch that there is room for has few entries
 pub room-few : (shape : Shape) (l : Ledger) (c r : ℕ) → Runs shape l → l.start + need l.layout c r ≤ l.ring.tail + l.ring.ring.blocks → (c ≤ 2 ^ 32) × (r ≤ 2 ^ 32)
 room-few shape l c r runs room =
     let e : Engine = engine_of shape l in
@@ -128,7 +128,7 @@ room-few shape l c r runs room =
     let sum : c + r ≤ 2 ^ 32 = few.1 in
     (omega arith, omega arith)
 
--- after a failure it can be asked, on a device whose shape stays
+-- after a failure it can run, on a device of the same shape
 pub faults-on : (shape after : Shape) (l : Ledger) → after ≡ shape → Runs shape l → Runs after (record l { aborted = true })
 faults-on shape after l same runs = record {
   plain = fault-runs (engine_of shape l) after runs.plain same;

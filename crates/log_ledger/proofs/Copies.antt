@@ -1,4 +1,4 @@
--- The copies and the revokes among the entries of a batch, and the copies at the places of a plan.
+-- Copies and revokes among entries, and the copies at a plan's places.
 use Rattle.std.proofs.Common.{arith, refl, sym, ap, ◌∙◌, append_assoc, get_or}
 use Rattle.std.specs.Prelude.{◌≡◌, ℕ, zero, suc, ◌+◌, ◌<◌, ◌≤◌, List, [], ◌∷◌, ◌++◌, length, map, take, drop, unwrap_or, Option, Some, slice_get, All}
 use Rattle.std.proofs.lemmas.List.{drop_more}
@@ -33,17 +33,17 @@ copy-size size ((c, Copy w) ∷ entries) (suc k) b v all there =
     copy-size size entries k b v (All-tail (λ x. length x.1 ≡ size) (c, w) (copied entries) all) there
 copy-size size ((c, Revoke) ∷ entries) (suc k) b v all there = copy-size size entries k b v all there
 
--- what is mapped at a place
+-- an element of a map
 pub map-at : {X Y : Type 0} (f : X → Y) (xs : List X) (k : ℕ) (x : X) → slice_get xs k ≡ Some x → slice_get (map f xs) k ≡ Some (f x)
 map-at f [] k x there = absurd (none-some x there)
 map-at f (y ∷ xs) zero x there = ap (λ z. Some (f z)) (same_Some y x there)
 map-at f (y ∷ xs) (suc k) x there = map-at f xs k x there
 
--- what is mapped of a part of a list
+-- a map of a part of a list
 pub map-part : {X Y : Type 0} (f : X → Y) (n first : ℕ) (xs : List X) → map f (take n (drop first xs)) ≡ take n (drop first (map f xs))
 map-part f n zero xs = map-front n xs
   where
-    -- of its front
+    -- a map of the front of a list
     map-front : (n : ℕ) (xs : List _) → map f (take n xs) ≡ take n (map f xs)
     map-front zero xs = refl
     map-front (suc n) [] = refl
@@ -57,14 +57,14 @@ pub length-at : (entries : List (ℕ × Entry)) (places : List ℕ) → length (
 length-at entries [] = refl
 length-at entries (p ∷ places) = ap (λ (n : ℕ). suc n) (length-at entries places)
 
--- an entry that has bytes for a header is one of the entries, and a copy
+-- an entry with bytes for a header is there, and a copy
 pub long-there : (entries : List (ℕ × Entry)) (place : ℕ) → header_bytes ≤ length (copy_at entries place).1 → (place < length entries) × IsLong (entry_at entries place).1
 long-there [] place long = absurd (omega arith)
 long-there ((b, Copy v) ∷ entries) zero long = (omega arith, long)
 long-there ((b, Revoke) ∷ entries) zero long = absurd (omega arith)
 long-there (e ∷ entries) (suc place) long = let there = long-there entries place long in (omega (arith, there.0), there.1)
 
--- an entry that is there is read as itself, whatever else would be read in its place
+-- an entry that is there is read as itself
 pub entry-there : (entries : List (ℕ × Entry)) (place : ℕ) (d : ℕ × Entry) → place < length entries → get_or entries place d ≡ entry_at entries place
 entry-there entries place d within = sym (ap (λ (o : Option (ℕ × Entry)). unwrap_or o (0, Revoke)) (slice_get-get_or entries place d within))
 
@@ -74,23 +74,23 @@ copied-more : (e : ℕ × Entry) (v : List ℕ) (entries : List (ℕ × Entry)) 
 copied-more (b, Copy w) v entries is = (refl, refl)
 copied-more (b, Revoke) v entries is = absurd cc
 
--- and one revoke more
+-- one revoke more among entries
 revoked-more : (e : ℕ × Entry) (entries : List (ℕ × Entry)) → e.1 ≡ Revoke →
     (copied (e ∷ entries) ≡ copied entries) × (revoked (e ∷ entries) ≡ e.0 ∷ revoked entries)
 revoked-more (b, Copy w) entries is = absurd cc
 revoked-more (b, Revoke) entries is = (refl, refl)
 
--- what is mapped of one more element
+-- a map of one more element
 map-last : {X Y : Type 0} (f : X → Y) (xs : List X) (x : X) → map f (xs ++ x ∷ []) ≡ map f xs ++ f x ∷ []
 map-last f [] x = refl
 map-last f (y ∷ xs) x = ap (λ ys. f y ∷ ys) (map-last f xs x)
 
 module _ (entries : List (ℕ × Entry)) (k : ℕ) (e : ℕ × Entry) (within : k < length entries) (here : e ≡ get_or entries k e) where
-  -- what stands from a place on begins with the entry there
+  -- the entries from a place on begin with the one there
   from-here : drop k entries ≡ e ∷ drop (k + 1) entries
   from-here = drop_more entries k e within ∙ ap (λ (x : ℕ × Entry). x ∷ drop (k + 1) entries) (sym here)
 
-  -- which is a copy
+  -- noting a copy keeps the plan
   pub notes-copy : (v : List ℕ) (places revokes : List ℕ) → e.1 ≡ Copy v →
       copies_at entries places ++ copied (drop k entries) ≡ copied entries → revokes ++ revoked (drop k entries) ≡ revoked entries →
       (copies_at entries (places ++ k ∷ []) ++ copied (drop (k + 1) entries) ≡ copied entries) × (revokes ++ revoked (drop (k + 1) entries) ≡ revoked entries)
@@ -107,7 +107,7 @@ module _ (entries : List (ℕ × Entry)) (k : ℕ) (e : ℕ × Entry) (within : 
         ap (λ (bs : List ℕ). revokes ++ bs) (sym more.1) ∙ ap (λ (es : List (ℕ × Entry)). revokes ++ revoked es) (sym from-here) ∙ all,
       )
 
-  -- or a revoke
+  -- noting a revoke keeps the plan
   pub notes-revoke : (places revokes : List ℕ) → e.1 ≡ Revoke →
       copies_at entries places ++ copied (drop k entries) ≡ copied entries → revokes ++ revoked (drop k entries) ≡ revoked entries →
       (copies_at entries places ++ copied (drop (k + 1) entries) ≡ copied entries) × ((revokes ++ e.0 ∷ []) ++ revoked (drop (k + 1) entries) ≡ revoked entries)
@@ -122,14 +122,14 @@ module _ (entries : List (ℕ × Entry)) (k : ℕ) (e : ℕ × Entry) (within : 
             ∙ all,
       )
 
--- what is so of each copy is so of the one at a place
+-- what holds of each copy holds of the one at a place
 pub at-place : (P : ℕ × List ℕ → Type 0) (entries : List (ℕ × Entry)) (places : List ℕ) (k d : ℕ) → All P (copies_at entries places) → k < length places →
     P (copy_at entries (get_or places k d))
 at-place P entries places k d all within =
     all-at P (copies_at entries places) k (copy_at entries (get_or places k d)) (recursion_from_All P (copies_at entries places) all)
     (map-at (copy_at entries) places k (get_or places k d) (slice_get-get_or places k d within))
 
--- so where copies have bytes for a header, the entry at a place is there, and a copy
+-- if copies are long enough for a header, the entry at a place is a copy
 pub long-at : (entries : List (ℕ × Entry)) (places : List ℕ) (k d : ℕ) → All (λ c. header_bytes ≤ length c.1) (copies_at entries places) → k < length places →
     (get_or places k d < length entries) × IsLong (entry_at entries (get_or places k d)).1
 long-at entries places k d all within =

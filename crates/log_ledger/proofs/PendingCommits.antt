@@ -1,4 +1,4 @@
--- A commit adds its copies to those that are pending, and replaces the older ones of its blocks.
+-- A commit adds its copies to the pending ones, and replaces older ones.
 use Rattle.std.proofs.Common.{refl, sym, ◌∙◌, ap, subst, arith, inl, inr, length-append}
 use Rattle.std.specs.Prelude.{◌≡◌, ℕ, ◌+◌, ◌<◌, ◌≤◌, nat_le, not, true, false, List, length, filter, Some, slice_get, Contains}
 use Rattle.std.specs.List.{AllByRecursion}
@@ -32,7 +32,7 @@ use Rattle.log_ledger.specs.Ledger.{IsPlaced, IsStillUnwritten, KeepsPending}
 use Rattle.log_ledger.proofs.PendingLists.{all-kept, blocks_of, contains-at, each-recursion, fewer-kept, key-number, key-there, keys_of, none-kept, place-of, touch-cases, untouched}
 use Rattle.log_ledger.proofs.PendingSame.{still-over}
 
--- a transaction needs a block for each of its copies, and more
+-- a transaction needs a block for each copy
 need-copies : (l : Layout) (c r : ℕ) → c ≤ need l c r
 need-copies l c r = more c (ceil_div c (tags_of l)) (ceil_div r (numbers_of l))
   where
@@ -40,7 +40,7 @@ need-copies l c r = more c (ceil_div c (tags_of l)) (ceil_div r (numbers_of l))
     more : (c x y : ℕ) → c ≤ c + x + y + 1
     more c x y = omega arith
 
--- so the copies of the one that is being committed are no more than its log blocks
+-- the transaction being committed has no more copies than log blocks
 copies-fit : (e : Engine) (b : Batch) → IsPlain e → slice_get e.accepted e.committed ≡ Some b → length (copied b.entries) ≤ length (due_blocks e)
 copies-fit e b plain due =
     let layout : IsLayout e.layout = plain.layout.0 in
@@ -48,7 +48,7 @@ copies-fit e b plain due =
     ap length (due-of e b due) ∙ length_own_text e.layout e.uuid b.tid b.entries layout in
     subst (λ (n : ℕ). length (copied b.entries) ≤ n) (sym size) (need-copies e.layout (length (copied b.entries)) (length (revoked b.entries)))
 
--- the entries of a transaction that is being committed may be committed
+-- the entries of the transaction being committed may be committed
 pub may-commit : (e : Engine) (p : PendingValue) (b : Batch) → IsPlain e → e.stage ≡ CommitFlush → slice_get e.accepted e.committed ≡ Some b →
     KeepsPending e p → AllByRecursion (λ k. k.0 < e.first + e.committed) p.queue × (length p.queue + length (copied b.entries) ≤ p.room)
 may-commit e p b plain stage due keeps =
@@ -69,7 +69,7 @@ may-commit e p b plain stage due keeps =
     at-least m n fits = grind (arith, nat_tests)
 
 module _ (e : Engine) (b : Batch) (plain : IsPlain e) (due : slice_get e.accepted e.committed ≡ Some b) where
-  -- a pending copy of a block that the transaction does not touch stays pending
+  -- a pending copy of an untouched block stays pending
   pending-still : (i c : ℕ) (v : List ℕ) → (Contains (blocks_of b.entries) c → ⊥) → IsPending e i c v → IsPending (stepped_from e CommitFlush) i c v
   pending-still i c v none pending = record {
     newest = record {
@@ -92,13 +92,13 @@ module _ (e : Engine) (b : Batch) (plain : IsPlain e) (due : slice_get e.accepte
     unreleased = pending.unreleased;
   }
 
-  -- what is pending then was so before, unless the transaction copies it
+  -- what is pending then was pending before, unless the transaction copies it
   pending-since : (i c : ℕ) (v : List ℕ) → i < e.committed → IsPending (stepped_from e CommitFlush) i c v → IsPending e i c v
   pending-since i c v below pending =
       let those : HasThose e e.accepted (e.committed + 1) = record { same = λ j high. refl; more = omega arith } in
       pending-before e e.accepted (e.committed + 1) (e.start + length (due_blocks e)) Idle e.aborted those i c v below pending
 
-  -- its block is not touched
+  -- its block is untouched
   not-touched : (i c : ℕ) (v : List ℕ) → i < e.committed → IsPending (stepped_from e CommitFlush) i c v → Contains (blocks_of b.entries) c → ⊥
   not-touched i c v below pending has = pending.newest.last e.committed b below (omega arith) due has
 
@@ -115,7 +115,7 @@ module _ (e : Engine) (b : Batch) (plain : IsPlain e) (due : slice_get e.accepte
         omega arith;
   }
 
-  -- and one that is of no older transaction is one of its copies
+  -- a pending copy of no older transaction is one of its copies
   new-copy : (i c : ℕ) (v : List ℕ) → e.committed ≤ i → IsPending (stepped_from e CommitFlush) i c v →
       (i ≡ e.committed) × (k : ℕ) × (slice_get b.entries k ≡ Some (c, Copy v))
   new-copy i c v above pending =
@@ -137,7 +137,7 @@ module _ (e : Engine) (b : Batch) (plain : IsPlain e) (due : slice_get e.accepte
   }
 
   module _ (p q : PendingValue) (keeps : KeepsPending e p) (commits : IsCommitted p b.entries (e.first + e.committed) q) where
-    -- one of a block that the transaction touches is its own
+    -- the copy of a touched block is the transaction's own
     own-known : (k c : ℕ) (x : Entry) (v : Version) → slice_get b.entries k ≡ Some (c, x) → newest_of q c ≡ Some v →
         (i : ℕ) × (v.tid ≡ e.first + i) × IsPlaced (stepped_from e CommitFlush) i c v.place
     own-known k c (Copy w) v stands here =
@@ -182,13 +182,13 @@ module _ (e : Engine) (b : Batch) (plain : IsPlain e) (due : slice_get e.accepte
         Contains-permutation (keys_of (e.first + e.committed) (copied b.entries)) commits.added (e.first + e.committed, c) commits.keys
         (key-there (e.first + e.committed) c k v b.entries stands)
 
-    -- so as many as there are copies
+    -- as many keys are added as there are copies
     added-count : length commits.added ≡ length (copied b.entries)
     added-count =
         length_permutation (keys_of (e.first + e.committed) (copied b.entries)) commits.added commits.keys
         ∙ length-map (copied b.entries) (λ (c : ℕ × List ℕ). let k : ℕ × ℕ = (e.first + e.committed, c.0) in k)
 
-    -- one that is not written is still to be written
+    -- an unwritten copy is still to be written
     still-only : (i c : ℕ) → Contains q.unwritten (e.first + i, c) → IsStillUnwritten e e.round i c
     still-only i c has =
         elim (Contains-append_cases (filter (λ x. not (is_touched b.entries x.1)) p.unwritten) commits.added (e.first + i, c)
@@ -200,14 +200,14 @@ module _ (e : Engine) (b : Batch) (plain : IsPlain e) (due : slice_get e.accepte
               still-later e.round i c (omega arith)
         ]
       where
-        -- a copy that no round has come to yet is still to be written
+        -- a copy that no round has reached is still to be written
         still-later : (round : Round) (i c : ℕ) → e.bound ≤ i → IsStillUnwritten e round i c
         still-later NoRound i c above = tt
         still-later (Copies transaction block) i c above = inl above
         still-later TailWrite i c above = above
         still-later TailFlush i c above = above
 
-    -- each that is still to be written is not written
+    -- each copy still to be written is unwritten
     still-all : (i c : ℕ) (v : List ℕ) → IsPending (stepped_from e CommitFlush) i c v → IsStillUnwritten e e.round i c →
         Contains q.unwritten (e.first + i, c)
     still-all i c v pending still =
@@ -224,7 +224,7 @@ module _ (e : Engine) (b : Batch) (plain : IsPlain e) (due : slice_get e.accepte
               (subst (λ (n : ℕ). Contains commits.added (e.first + n, c)) (sym own.0) (added-all own.1 c v own.2))
         ])
 
-    -- the numbers of what is queued
+    -- the numbers of the queued copies
     queued-numbers : (t c : ℕ) → Contains q.queue (t, c) → (e.first + e.released ≤ t) × (t < e.first + (e.committed + 1))
     queued-numbers t c has =
         elim (Contains-append_cases p.queue commits.added (t, c) (subst (λ xs. Contains xs (t, c)) commits.queue has)) [
@@ -239,7 +239,7 @@ module _ (e : Engine) (b : Batch) (plain : IsPlain e) (due : slice_get e.accepte
               (omega arith, omega arith)
         ]
 
-    -- how many are queued from a transaction on
+    -- how many copies are queued from a transaction on
     queued-more : (i : ℕ) → length (filter (λ x. nat_le (e.first + i) x.0) q.queue)
         ≡ length (filter (λ x. nat_le (e.first + i) x.0) p.queue) + length (filter (λ x. nat_le (e.first + i) x.0) commits.added)
     queued-more i =
@@ -276,11 +276,11 @@ module _ (e : Engine) (b : Batch) (plain : IsPlain e) (due : slice_get e.accepte
         below-it : (m n : ℕ) → n < m → nat_le m n ≡ false
         below-it m n less = grind (arith, nat_tests)
 
--- one more is accepted than is committed where the last step of a commit is due
+-- at a commit's last step one more is accepted than is committed
 flush-one : (e : Engine) → IsPlain e → e.stage ≡ CommitFlush → length e.accepted ≡ e.committed + 1
 flush-one e plain stage = (subst (StageAgrees e) stage plain.stage).0
 
--- the last step adds them
+-- the last step of a commit keeps the pending copies
 pub done-keeps : (e : Engine) (p q : PendingValue) (b : Batch) → IsPlain e → e.stage ≡ CommitFlush → slice_get e.accepted e.committed ≡ Some b →
     KeepsPending e p → IsCommitted p b.entries (e.first + e.committed) q → ArePending q → KeepsPending (stepped_from e CommitFlush) q
 done-keeps e p q b plain stage due keeps commits kept = record {

@@ -1,4 +1,4 @@
--- Elements of lists by their places, what a filter keeps, ordered lists, which blocks entries touch, and the keys of their copies.
+-- Elements of lists by place, filters, ordered lists, touched blocks, and keys of copies.
 use Rattle.std.proofs.Common.{refl, sym, ap, subst, arith, inl, inr}
 use Rattle.std.specs.Prelude.{◌≡◌, ◌⊎◌, ℕ, zero, suc, ◌≤◌, ◌==◌, Bool, true, false, cond, List, [], ◌∷◌, length, map, drop, filter, Some, None, slice_get, Contains}
 use Rattle.std.specs.List.{AllByRecursion}
@@ -31,7 +31,7 @@ place-of (y ∷ xs) x has =
 pub kept-passes : {X : Type 0} (test : X → Bool) (xs : List X) (x : X) → Contains (filter test xs) x → test x ≡ true
 kept-passes test xs x has = All-contains (λ y. test y ≡ true) (filter test xs) x (filter_passes test xs) has
 
--- where each passes, a filter keeps as many
+-- a filter that each passes keeps as many
 pub all-kept : {X : Type 0} (test : X → Bool) (xs : List X) → ((x : X) → Contains xs x → test x ≡ true) → length (filter test xs) ≡ length xs
 all-kept test [] each = refl
 all-kept test (x ∷ xs) each =
@@ -39,14 +39,14 @@ all-kept test (x ∷ xs) each =
     let rest : length (filter test xs) ≡ length xs = all-kept test xs (λ y has. each y (contains-behind x xs y has)) in
     rw here (ap suc rest)
 
--- where none passes, it keeps none
+-- a filter that none passes keeps none
 pub none-kept : {X : Type 0} (test : X → Bool) (xs : List X) → ((x : X) → Contains xs x → test x ≡ false) → length (filter test xs) ≡ 0
 none-kept test [] each = refl
 none-kept test (x ∷ xs) each =
     let here : test x ≡ false = each x (contains-first x xs x refl) in
     rw here (none-kept test xs (λ y has. each y (contains-behind x xs y has)))
 
--- it keeps no more than there are
+-- a filter keeps no more than there are
 pub fewer-kept : {X : Type 0} (test : X → Bool) (xs : List X) → length (filter test xs) ≤ length xs
 fewer-kept test [] = omega arith
 fewer-kept test (x ∷ xs) =
@@ -56,7 +56,7 @@ fewer-kept test (x ∷ xs) =
       | false ↦ omega arith
     ]
 
--- nor more than without another filter before it
+-- a filter keeps no more after another filter
 pub fewer-twice : {X : Type 0} (test other : X → Bool) (xs : List X) → length (filter test (filter other xs)) ≤ length (filter test xs)
 fewer-twice test other [] = omega arith
 fewer-twice test other (x ∷ xs) =
@@ -75,7 +75,7 @@ fewer-twice test other (x ∷ xs) =
           ]
     ]
 
--- each element may be told of all of them
+-- a fact of each element, by recursion
 pub each-recursion : {X : Type 0} (P : X → Type 0) (xs : List X) → ((x : X) → Contains xs x → P x) → AllByRecursion P xs
 each-recursion P [] each = tt
 each-recursion P (x ∷ xs) each = (each x (contains-first x xs x refl), each-recursion P xs (λ y has. each y (contains-behind x xs y has)))
@@ -85,7 +85,7 @@ pub begins-first : {X : Type 0} (xs : List X) (x : X) → slice_get xs 0 ≡ Som
 begins-first [] x stands = absurd (none-some x stands)
 begins-first (y ∷ xs) x stands = ap (λ z. z ∷ xs) (same_Some y x stands)
 
--- one without is empty
+-- a list without a first element is empty
 pub empty-first : {X : Type 0} (xs : List X) → slice_get xs 0 ≡ None → xs ≡ []
 empty-first [] none = refl
 empty-first (x ∷ xs) none = absurd (none-some x (sym none))
@@ -112,7 +112,7 @@ touch-cases ((c, x) ∷ entries) b =
           ]
     ]
 
--- then the test finds none
+-- then the test finds no touch
 pub untouched : (entries : List (ℕ × Entry)) (b : ℕ) → (Contains (blocks_of entries) b → ⊥) → is_touched entries b ≡ false
 untouched [] b none = refl
 untouched ((c, x) ∷ entries) b none =
@@ -128,7 +128,7 @@ untouched ((c, x) ∷ entries) b none =
 abbrev pub keys_of : ℕ → List (ℕ × List ℕ) → List (ℕ × ℕ)
 keys_of tid copies = map {B = ℕ × ℕ} (λ c. (tid, c.0)) copies
 
--- they have its number
+-- these keys have its number
 pub key-number : (tid t b : ℕ) (copies : List (ℕ × List ℕ)) → Contains (keys_of tid copies) (t, b) → t ≡ tid
 key-number tid t b [] has = absurd (contains-none (t, b) has)
 key-number tid t b (c ∷ copies) has =
@@ -137,7 +137,7 @@ key-number tid t b (c ∷ copies) has =
       | inr behind ↦ key-number tid t b copies behind
     ]
 
--- each copy has one
+-- each copy has a key
 pub key-there : (tid b k : ℕ) (v : List ℕ) (entries : List (ℕ × Entry)) → slice_get entries k ≡ Some (b, Copy v) →
     Contains (keys_of tid (copied entries)) (tid, b)
 key-there tid b k v [] stands = absurd (none-some _ stands)

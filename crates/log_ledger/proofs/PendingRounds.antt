@@ -1,4 +1,4 @@
--- A checkpoint round writes the pending copies home in their order, and releases them.
+-- A checkpoint round writes the pending copies home in order, and releases them.
 use Rattle.std.proofs.Common.{refl, sym, ◌∙◌, ap, subst, arith, inl, inr}
 use Rattle.std.specs.Prelude.{◌≡◌, ◌⊎◌, ℕ, ◌+◌, ◌-◌, ◌<◌, ◌≤◌, nat_le, nat_lt, true, List, ◌∷◌, length, drop, filter}
 use Rattle.std.specs.Prelude.{Option, Some, None, slice_get, Contains}
@@ -24,26 +24,26 @@ from-before : (first i b j c : ℕ) → Before (first + i, b) (first + j, c) →
 from-before first i b j c (inl less) = inl (omega arith)
 from-before first i b j c (inr same) = let number = same.0 in inr (omega arith, same.1)
 
--- so the later one comes from behind the other on
+-- then the later one is after the other
 from-later : (i b j c : ℕ) → (i < j) ⊎ ((i ≡ j) × (b < c)) → IsFrom i (b + 1) j c
 from-later i b j c (inl less) = inl less
 from-later i b j c (inr same) = let less = same.1 in inr (same.0, omega arith)
 
--- and so from it on
+-- what is after a copy is from it on
 from-here : (i b j c : ℕ) → IsFrom i (b + 1) j c → IsFrom i b j c
 from-here i b j c (inl less) = inl less
 from-here i b j c (inr same) = let least = same.1 in inr (same.0, omega arith)
 
--- and each block of a transaction comes from itself on
+-- each copy is from itself on
 from-itself : (i b j c : ℕ) → i ≡ j → b ≡ c → IsFrom i b j c
 from-itself i b j c number block = inr (number, omega arith)
 
--- but not from behind itself
+-- no copy is after itself
 not-behind : (i b j c : ℕ) → i ≡ j → b ≡ c → IsFrom i (b + 1) j c → ⊥
 not-behind i b j c number block (inl less) = omega arith
 not-behind i b j c number block (inr same) = let least = same.1 in omega arith
 
--- what comes from one on that comes from another on comes from that on
+-- the order of copies is transitive
 from-over : (i b j c k d : ℕ) → IsFrom i b j c → IsFrom j c k d → IsFrom i b k d
 from-over i b j c k d (inl less) (inl next) = inl (omega arith)
 from-over i b j c k d (inl less) (inr next) = let same = next.0 in inl (omega arith)
@@ -51,17 +51,17 @@ from-over i b j c k d (inr same) (inl next) = let number = same.0 in inl (omega 
 from-over i b j c k d (inr same) (inr next) =
     let number = same.0 in let other = next.0 in let least = same.1 in let more = next.1 in inr (omega arith, omega arith)
 
--- copies that are the same have one number and one block
+-- equal copies have one number and one block
 same-copy : (first i b : ℕ) (x : ℕ × ℕ) → x ≡ (first + i, b) → (x.0 ≡ first + i) × (x.1 ≡ b)
 same-copy first i b x same = (ap (λ (y : ℕ × ℕ). y.0) same, ap (λ (y : ℕ × ℕ). y.1) same)
 
 module _ (e : Engine) (transaction block : ℕ) (round : e.round ≡ Copies transaction block) where
-  -- a copy that is not written is one of a later round, or is still to be written by this one
+  -- an unwritten copy is still to be written, by this round or a later one
   still-in : (p : PendingValue) → KeepsPending e p → (i b : ℕ) → Contains p.unwritten (e.first + i, b) →
       (e.bound ≤ i) ⊎ IsFrom transaction block i b
   still-in p keeps i b has = subst (λ (r : Round). IsStillUnwritten e r i b) round (keeps.unwritten_only i b has)
 
-  -- and each of these is not written
+  -- each of these is unwritten
   not-written : (p : PendingValue) → KeepsPending e p → (i b : ℕ) (v : List ℕ) → IsPending e i b v → (e.bound ≤ i) ⊎ IsFrom transaction block i b →
       Contains p.unwritten (e.first + i, b)
   not-written p keeps i b v pending still =
@@ -71,7 +71,7 @@ module _ (e : Engine) (transaction block : ℕ) (round : e.round ≡ Copies tran
   bound-some : IsPlain e → e.released < e.bound
   bound-some plain = subst (RoundAgrees e) round plain.round
 
--- the first copy that is not written is the one that the round writes next, where its transaction is one of the round's
+-- the first unwritten copy is the round's next one
 pub next-copy : (e : Engine) (p : PendingValue) (transaction block : ℕ) (copy : HomeCopy) → IsPlain e →
     e.round ≡ Copies transaction block → KeepsPending e p → slice_get p.unwritten 0 ≡ Some (copy.version.tid, copy.block) →
     copy.version.tid ≤ e.first + e.bound - 1 → newest_of p copy.block ≡ Some copy.version →
@@ -107,12 +107,12 @@ next-copy e p transaction block copy plain round keeps stands low here =
     contains-here : (x : ℕ × ℕ) (xs : List (ℕ × ℕ)) → Contains (x ∷ xs) x
     contains-here x xs = (0, omega arith, refl)
 
-    -- one of the round's transactions is of no later round
+    -- a copy of the round's transactions is of no later round
     from-due : (i : ℕ) → i < e.bound → (e.bound ≤ i) ⊎ IsFrom transaction block i copy.block → IsFrom transaction block i copy.block
     from-due i due (inl above) = absurd (omega arith)
     from-due i due (inr from) = from
 
-    -- each that is not written is the first, or comes behind it
+    -- each unwritten copy is the first, or after it
     each : (i j c : ℕ) → p.unwritten ≡ (e.first + i, copy.block) ∷ drop 1 p.unwritten → Contains ((e.first + i, copy.block) ∷ drop 1 p.unwritten) (e.first + j, c) →
         IsFrom i copy.block j c
     each i j c first has =
@@ -128,7 +128,7 @@ next-copy e p transaction block copy plain round keeps stands low here =
               (first-before (e.first + i, copy.block) (e.first + j, c) (drop 1 p.unwritten) (subst IsOrdered first keeps.kept.ordered_unwritten) behind)))
         ]
 
--- none that is not written is below the first
+-- no unwritten copy is below the first
 none-below : (bound : ℕ) (p : PendingValue) (t b : ℕ) → ArePending p → ((s c : ℕ) → slice_get p.unwritten 0 ≡ Some (s, c) → bound < s) →
     Contains p.unwritten (t, b) → bound < t
 none-below bound p t b kept none has =
@@ -147,7 +147,7 @@ none-below bound p t b kept none has =
     above-first x (inl less) above = omega arith
     above-first x (inr same) above = let number = same.0 in omega arith
 
--- where there is none, none is left
+-- if there is no first, no copy is left
 pub none-left : (e : Engine) (p : PendingValue) (transaction block : ℕ) → IsPlain e → e.round ≡ Copies transaction block → KeepsPending e p →
     ((t b : ℕ) → slice_get p.unwritten 0 ≡ Some (t, b) → e.first + e.bound - 1 < t) → (i b : ℕ) (v : List ℕ) → IsUnwritten e transaction block i b v → ⊥
 none-left e p transaction block plain round keeps next i b v waits =
@@ -156,7 +156,7 @@ none-left e p transaction block plain round keeps next i b v waits =
     let due : i < e.bound = waits.due in
     omega arith
 
--- an engine with the same transactions, of which as many are committed and released, has the same pending copies in their places
+-- an engine with as many committed and released has the same pending copies
 placed-of : (e f : Engine) (i b k : ℕ) → f.accepted ≡ e.accepted → f.committed ≡ e.committed → f.released ≡ e.released →
     IsPlaced e i b k → IsPlaced f i b k
 placed-of e f i b k accepted committed released placed = record {
@@ -167,7 +167,7 @@ placed-of e f i b k accepted committed released placed = record {
   entry = placed.entry;
 }
 
--- a copy that is written home is not to be written again
+-- a copy written home is not written again
 pub wrote-keeps : (e : Engine) (p q : PendingValue) (transaction block i b : ℕ) (v : List ℕ) → IsPlain e →
     e.round ≡ Copies transaction block → KeepsPending e p → IsNextCopy e transaction block i b v →
     slice_get p.unwritten 0 ≡ Some (e.first + i, b) → q ≡ record p { unwritten = drop 1 p.unwritten } → ArePending q → KeepsPending (record e { round = Copies i (b + 1) }) q
@@ -219,23 +219,23 @@ wrote-keeps e p q transaction block i b v plain round keeps next stands wrote ke
     queue-is : q.queue ≡ p.queue
     queue-is = ap (λ (x : PendingValue). x.queue) wrote
 
-    -- what is left comes from behind the copy on
+    -- the rest is after the copy
     behind-it : (j c : ℕ) → Contains rest (e.first + j, c) → IsFrom i (b + 1) j c
     behind-it j c has =
         from-later i b j c
         (from-before e.first i b j c (first-before (e.first + i, b) (e.first + j, c) rest (subst IsOrdered list keeps.kept.ordered_unwritten) has))
 
-    -- what comes from there on came from where the round was on
+    -- what is after the copy was from where the round was
     still-before : (j c : ℕ) → (e.bound ≤ j) ⊎ IsFrom i (b + 1) j c → (e.bound ≤ j) ⊎ IsFrom transaction block j c
     still-before j c (inl above) = inl above
     still-before j c (inr from) = inr (from-over transaction block i b j c next.unwritten.from (from-here i b j c from))
 
-    -- and is not the copy itself
+    -- it is not the copy itself
     not-first : (j c : ℕ) → i ≡ j → b ≡ c → (e.bound ≤ j) ⊎ IsFrom i (b + 1) j c → ⊥
     not-first j c number same (inl above) = let due : i < e.bound = next.unwritten.due in omega arith
     not-first j c number same (inr from) = not-behind i b j c number same from
 
--- behind the flush of home none of the round's copies is to be written
+-- after the flush of home the round has no copy left to write
 pub flushed-keeps : (e : Engine) (p : PendingValue) (transaction block : ℕ) → IsPlain e → e.round ≡ Copies transaction block → KeepsPending e p →
     ((i b : ℕ) (v : List ℕ) → IsUnwritten e transaction block i b v → ⊥) → KeepsPending (record e { round = TailWrite }) p
 flushed-keeps e p transaction block plain round keeps none = record {
@@ -265,7 +265,7 @@ flushed-keeps e p transaction block plain round keeps none = record {
   used = keeps.used;
 }
   where
-    -- what is not written is pending
+    -- an unwritten copy is pending
     waiting-pending : (i b : ℕ) → Contains p.unwritten (e.first + i, b) → (v : List ℕ) × IsPending e i b v
     waiting-pending i b has =
         let here = keeps.kept.pending (e.first + i) b has in
@@ -275,7 +275,7 @@ flushed-keeps e p transaction block plain round keeps none = record {
         let same : found.0 ≡ i = omega arith in
         (found.2.bytes, subst (λ (j : ℕ). IsPending e j b found.2.bytes) same found.2.pending)
 
--- a newest copy that is not released was the newest before, and is of a transaction behind the bound
+-- an unreleased newest copy was the newest before, and is after the bound
 unreleased-some : (bound : ℕ) (o : Option Version) (v : Version) → unreleased bound o ≡ Some v → (o ≡ Some v) × (bound < v.tid)
 unreleased-some bound None v same = absurd (none-some v same)
 unreleased-some bound (Some u) v same =
@@ -285,7 +285,7 @@ unreleased-some bound (Some u) v same =
     let above : bound < u.tid = grind (arith, nat_tests) in
     (ap Some parts.1, omega arith)
 
--- one of such a transaction stays
+-- a copy of such a transaction stays
 unreleased-above : (bound : ℕ) (v : Version) → bound < v.tid → unreleased bound (Some v) ≡ Some v
 unreleased-above bound v above = let test : nat_lt bound v.tid ≡ true = grind (arith, nat_tests) in rw test refl
 
@@ -293,7 +293,7 @@ unreleased-above bound v above = let test : nat_lt bound v.tid ≡ true = grind 
 abbrev released_by : Engine → Engine
 released_by e = record e { released = e.bound; tail = e.bound_position; round = NoRound }
 
--- what is pending then was so before
+-- what is pending then was pending before
 pending-unreleased : (e : Engine) (i b : ℕ) (v : List ℕ) → IsPlain e → IsPending (released_by e) i b v → IsPending e i b v
 pending-unreleased e i b v plain pending = record {
   newest = newest-of (released_by e) e i b v refl refl pending.newest;
@@ -303,7 +303,7 @@ pending-unreleased e i b v plain pending = record {
       omega arith;
 }
 
--- one that was pending and is of no released transaction stays so, where it stood
+-- a pending copy of no released transaction stays, at its place
 placed-unreleased : (e : Engine) (i b k : ℕ) → e.bound ≤ i → IsPlaced e i b k → IsPlaced (released_by e) i b k
 placed-unreleased e i b k above placed = record {
   bytes = placed.bytes;
@@ -313,7 +313,7 @@ placed-unreleased e i b k above placed = record {
   entry = placed.entry;
 }
 
--- the copies of released transactions are pending no more
+-- copies of released transactions are no longer pending
 pub released-keeps : (e : Engine) (p q : PendingValue) → IsPlain e → e.round ≡ TailFlush → KeepsPending e p →
     IsReleased p (e.first + e.bound - 1) q → ArePending q →
     KeepsPending (record e { released = e.bound; tail = e.bound_position; round = NoRound }) q
@@ -375,6 +375,6 @@ released-keeps e p q plain round keeps releases kept = record {
     passes-less : (m n : ℕ) → nat_lt m n ≡ true → m < n
     passes-less m n passes = grind (arith, nat_tests)
 
-    -- a transaction from the bound on has a number behind those that are released
+    -- a transaction from the bound on has a number after the released ones
     past : (i t : ℕ) → e.bound ≤ i → t ≡ e.first + i → e.first + e.bound - 1 < t
     past i t least number = let rounds : e.released < e.bound = some in omega arith

@@ -1,4 +1,4 @@
--- What is kept of pending copies is read from few parts of the engine: an engine that agrees on these keeps the same.
+-- Engines that agree on a few parts keep the same pending copies.
 use Rattle.std.proofs.Common.{sym, ◌∙◌, subst, arith, inl, inr}
 use Rattle.std.specs.Prelude.{◌≡◌, ℕ, ◌+◌, ◌<◌, ◌≤◌, nat_le, List, length, filter, map, take, slice_get}
 use Rattle.journal_model.specs.declared.entry.Batch.{Batch}
@@ -10,7 +10,7 @@ use Rattle.journal_world.specs.Checkpoint.{IsPending}
 use Rattle.journal_world.specs.Engine.{Engine, text_of}
 use Rattle.log_ledger.specs.Ledger.{IsPlaced, IsStillUnwritten, KeepsPending}
 
--- what is still to be written is the same with the same bound
+-- with the same bound the same copies are still to be written
 pub still-over : (e f : Engine) (round : Round) (i b : ℕ) → f.bound ≡ e.bound → IsStillUnwritten e round i b → IsStillUnwritten f round i b
 still-over e f NoRound i b bound still = tt
 still-over e f (Copies transaction block) i b bound (inl above) = inl (omega arith)
@@ -32,7 +32,7 @@ as_far e f =
       released = e.released;
     }
 
--- the committed transactions are the same, and the same copies are still to be written
+-- the same transactions are committed, and the same copies still to be written
 pub record AgreesOnPending (e f : Engine) : Type 0 where
   pub each : (j : ℕ) → j < e.committed → slice_get f.accepted j ≡ slice_get e.accepted j
   pub front : (i : ℕ) → i ≤ e.committed → take i f.accepted ≡ take i e.accepted
@@ -55,7 +55,7 @@ module _ (e f : Engine) (agrees : AgreesOnPending e f) where
     unreleased = pending.unreleased;
   }
 
-  -- and the other way round
+  -- and conversely
   pending-back : (i b : ℕ) (v : List ℕ) → IsPending (as_far e f) i b v → IsPending e i b v
   pending-back i b v pending = record {
     newest = record {
@@ -70,7 +70,7 @@ module _ (e f : Engine) (agrees : AgreesOnPending e f) where
     unreleased = pending.unreleased;
   }
 
-  -- it stands at the same place
+  -- at the same place
   placed-on : (i b k : ℕ) → IsPlaced e i b k → IsPlaced (as_far e f) i b k
   placed-on i b k placed = record {
     bytes = placed.bytes;
@@ -80,7 +80,7 @@ module _ (e f : Engine) (agrees : AgreesOnPending e f) where
     entry = placed.entry;
   }
 
-  -- the same is kept
+  -- the same copies are kept
   pub keeps-over : (p : PendingValue) → KeepsPending e p → KeepsPending (as_far e f) p
   keeps-over p keeps = record {
     kept = keeps.kept;

@@ -1,4 +1,4 @@
--- The ledger keeps just the machine's pending copies: at first, and over the steps that change none of them.
+-- The ledger keeps the machine's pending copies, at first and over steps that change none.
 use Rattle.std.proofs.Common.{refl, sym, ◌∙◌, ap, subst, arith, inl, inr}
 use Rattle.std.specs.Prelude.{◌≡◌, ◌≢◌, ℕ, zero, suc, ◌+◌, ◌<◌, ◌≤◌, nat_le, List, [], ◌∷◌, length, filter, take, true, None, slice_get, Contains}
 use Rattle.std.proofs.lemmas.List.{take-append-le}
@@ -33,7 +33,7 @@ fresh-keeps shape superblock next p newest queue unwritten room kept =
     none-unwritten : (t b : ℕ) → Contains p.unwritten (t, b) → ⊥
     none-unwritten t b has = contains-none (t, b) (subst (λ xs. Contains xs (t, b)) unwritten has)
 
-    -- they are all of an engine that has committed nothing
+    -- they are all copies of an engine that has committed nothing
     none-keeps : (e : Engine) → e.committed ≡ 0 → p.room ≡ e.ring.blocks → KeepsPending e p
     none-keeps e none size = record {
       kept = kept;
@@ -71,7 +71,7 @@ takes-keeps e b p all keeps =
       all = λ i c still. still-over (accepting e b) e e.round i c refl still;
     }) p keeps
 
--- nor does a step of a commit before the last
+-- a step of a commit before the last changes nothing
 pub steps-keeps : (e : Engine) (p : PendingValue) → e.stage ≢ CommitFlush → KeepsPending e p → KeepsPending (stepped e) p
 steps-keeps e p before keeps = from e.stage before
   where
@@ -90,7 +90,7 @@ steps-keeps e p before keeps = from e.stage before
 pub aborted-keeps : (e : Engine) (p : PendingValue) → KeepsPending e p → KeepsPending (record e { aborted = true }) p
 aborted-keeps e p keeps = keeps-over e (record e { aborted = true }) (same-agrees e (record e { aborted = true }) refl refl refl) p keeps
 
--- nor does the beginning of a round: all its copies are still to be written
+-- the beginning of a round changes nothing
 pub begun-keeps : (e : Engine) (p : PendingValue) → e.round ≡ NoRound → KeepsPending e p → KeepsPending (begun_from e NoRound) p
 begun-keeps e p none keeps =
     keeps-over e (begun_from e NoRound) (record {
@@ -100,7 +100,7 @@ begun-keeps e p none keeps =
       all = λ i b still. subst (λ (r : Round). IsStillUnwritten e r i b) (sym none) tt;
     }) p keeps
   where
-    -- each block of each transaction comes behind the first, or is it
+    -- each copy is from the first one on
     from-first : (i b : ℕ) → IsFrom 0 0 i b
     from-first zero b = inr (refl, omega arith)
     from-first (suc i) b = inl (omega arith)

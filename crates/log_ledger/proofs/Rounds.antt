@@ -1,4 +1,4 @@
--- The due call of a round is one, and a ledger that has gone on by it can run.
+-- The round's due call is unique, and a ledger can run after it.
 use Rattle.std.proofs.Common.{refl, sym, ap, ap₂, subst, ◌∙◌, arith, inl, inr}
 use Rattle.std.specs.Prelude.{◌≡◌, ◌≢◌, ℕ, ◌+◌, ◌-◌, ◌<◌, ◌≤◌, List, length, Option, Some, None, slice_get}
 use Rattle.std.proofs.lemmas.Bool.{cases_lt}
@@ -50,7 +50,7 @@ module _ (l : Ledger) (size : ℕ) (on : CanRunOn l size) where
   pub round-superblock : length l.superblock.items ≡ size
   round-superblock = (superblock-here (engine_of on.shape l) on.runs.plain).size ∙ sym on.size_is
 
-  -- a block has a size that a block may have
+  -- a block has an allowed size
   pub round-size : IsBlockSize size
   round-size =
       subst IsBlockSize (on.runs.plain.layout.1 ∙ sym on.size_is) on.runs.plain.layout.0.0
@@ -63,7 +63,7 @@ module _ (l : Ledger) (size : ℕ) (on : CanRunOn l size) where
       let same = is.size in
       omega arith
 
--- on each device on which it can run, blocks have this size
+-- blocks have this size on each device on which it can run
 pub round-same : (shape : Shape) (l : Ledger) (size : ℕ) → CanRunOn l size → Runs shape l → size ≡ shape.block_size
 round-same shape l size on runs = sym (round-superblock l size on) ∙ (superblock-here (engine_of shape l) runs.plain).size
 
@@ -90,21 +90,21 @@ under-way e (Copies transaction block) agrees busy = agrees
 under-way e TailWrite agrees busy = agrees
 under-way e TailFlush agrees busy = agrees
 
--- of two copies that come before one another both are the same
+-- two copies, each from the other on, are the same
 from-both : (i b j c : ℕ) → IsFrom i b j c → IsFrom j c i b → (i ≡ j) × (b ≡ c)
 from-both i b j c (inl before) (inl behind) = absurd (omega arith)
 from-both i b j c (inl before) (inr same) = let at = same.0 in absurd (omega arith)
 from-both i b j c (inr same) (inl behind) = let at = same.0 in absurd (omega arith)
 from-both i b j c (inr same) (inr other) = let low = same.1 in let high = other.1 in (same.0, omega arith)
 
--- the copy that is written next is one
+-- the next copy is unique
 one-copy : (e : Engine) (t k i b j c : ℕ) (v w : List ℕ) → IsPlain e → IsNextCopy e t k i b v → IsNextCopy e t k j c w → (i ≡ j) × (b ≡ c) × (v ≡ w)
 one-copy e t k i b j c v w plain one other =
     let same = from-both i b j c (one.first j c w other.unwritten) (other.first i b v one.unwritten) in
     let there = subst (λ n. IsNextCopy e t k j n w) (sym same.1) other in
     (same.0, same.1, newest-bytes e i j b v w plain one.unwritten.pending.newest there.unwritten.pending.newest)
 
--- the due call of a round is one, and so is the engine behind it
+-- the round's due call is unique, and so is the engine after it
 pub one-call : (e : Engine) (round : Round) (call other : Call) (new next : Engine) → IsPlain e → RoundCall e round call new →
     RoundCall e round other next → (call ≡ other) × (new ≡ next)
 one-call e round call other new next plain (CopyHome t k i b v one) (CopyHome _ _ j c w two) =
@@ -118,7 +118,7 @@ one-call e round call other new next plain (FlushHome t k none) (FlushHome _ _ n
 one-call e round call other new next plain WriteTail WriteTail = (refl, refl)
 one-call e round call other new next plain FlushTail FlushTail = (refl, refl)
 
--- what a call of a round leaves of the engine as it was
+-- what a call of a round leaves of the engine
 pub record KeepsCommit (e new : Engine) : Type 0 where
   pub shape : new.shape ≡ e.shape
   pub layout : new.layout ≡ e.layout
@@ -133,7 +133,7 @@ call-keeps e round call new (FlushHome t k none) = record { shape = refl; layout
 call-keeps e round call new WriteTail = record { shape = refl; layout = refl; uuid = refl; accepted = refl; committed = refl; start = refl }
 call-keeps e round call new FlushTail = record { shape = refl; layout = refl; uuid = refl; accepted = refl; committed = refl; start = refl }
 
--- the blocks of the transaction that is being committed do not depend on the round
+-- the blocks of the transaction being committed do not depend on the round
 pub due-alike : (e new : Engine) → KeepsCommit e new → due_blocks new ≡ due_blocks e
 due-alike e new keeps =
     ap₂ (λ (bs : List Batch) (n : ℕ). blocks_if new (slice_get bs n)) keeps.accepted keeps.committed ∙ alike (slice_get e.accepted e.committed)
@@ -143,7 +143,7 @@ due-alike e new keeps =
     alike (Some b) =
         ap₂ (λ (l : Layout) (u : List ℕ). text_blocks (own_text l u b.tid b.entries)) keeps.layout keeps.uuid
 
--- nor does what is taken of the ring
+-- what is taken of the ring does not depend on the round
 round-taken : (shape : Shape) (l new : Ledger) → KeepsCommit (engine_of shape l) (engine_of shape new) → new.ring.head ≡ l.ring.head →
     HasTaken shape l → HasTaken shape new
 round-taken shape l new keeps head taken =
@@ -151,7 +151,7 @@ round-taken shape l new keeps head taken =
       head = head ∙ taken.head ∙ ap₂ (λ (m n : ℕ). m + n) (sym keeps.start) (ap length (sym due));
     }
 
--- an engine that can run can run behind the call
+-- an engine that can run can run after the call
 gone-runs : (e : Engine) (call : Call) (new : Engine) → IsPlain e → e.round ≢ NoRound → RoundCall e e.round call new → IsPlain new
 gone-runs e call new plain busy due =
     let same : begun e ≡ e = begun-self e e.round busy in
@@ -159,7 +159,7 @@ gone-runs e call new plain busy due =
     let least : e.bound ≤ e.committed = plain.order.1 in
     round-plain e call new plain (omega arith) (subst (λ (x : Engine). RoundCall x x.round call new) (sym same) due)
 
--- a ledger has gone on by the call that was due
+-- a ledger went on by the due call
 pub gone : (shape : Shape) (l new : Ledger) (round : Round) (call : Call) (stepped : Engine) → Runs shape l → l.round ≡ round → round ≢ NoRound →
     RoundCall (engine_of shape l) round call stepped → engine_of shape new ≡ stepped → new.ring.head ≡ l.ring.head →
     KeepsPending stepped new.pending → HasKept new → HasGone shape l new
@@ -211,7 +211,7 @@ begins shape l new runs at more is head pending same =
       },
     )
 
--- the copy that is written home next, by the machine and by what is kept
+-- the next copy, by the machine and by the ledger
 pub record NextHome (e : Engine) (p : PendingValue) (transaction block : ℕ) (copy : HomeCopy) : Type 0 where
   pub index : ℕ
   pub number : copy.version.tid ≡ e.first + index
@@ -219,14 +219,14 @@ pub record NextHome (e : Engine) (p : PendingValue) (transaction block : ℕ) (c
   pub next : IsNextCopy e transaction block index copy.block placed.bytes
   pub waits : slice_get p.unwritten 0 ≡ Some (e.first + index, copy.block)
 
--- what is kept of the bytes is what the machine has
+-- the ledger keeps the machine's bytes
 same-place : (e : Engine) (t k i j b n : ℕ) (v : List ℕ) → IsPlain e → i ≡ j → IsNextCopy e t k i b v → (placed : IsPlaced e j b n) →
     (here : IsPlaced e i b n) × IsNextCopy e t k i b here.bytes
 same-place e t k i j b n v plain same next placed =
     let here = subst (λ m. IsPlaced e m b n) (sym same) placed in
     (here, subst (IsNextCopy e t k i b) (newest-bytes e i i b v here.bytes plain next.unwritten.pending.newest here.pending.newest) next)
 
--- the one that is to be written first
+-- the ledger's next copy is the machine's
 pub next-home : (shape : Shape) (l : Ledger) (copy : HomeCopy) → Runs shape l → (due : IsDueHome l copy) →
     NextHome (engine_of shape l) l.pending due.transaction due.block copy
 next-home shape l copy runs due =
@@ -246,13 +246,13 @@ next-home shape l copy runs due =
       waits = due.first ∙ ap (λ (n : ℕ). let k : ℕ × ℕ = (n, copy.block) in Some k) number;
     }
 
--- a copy that stands in a transaction is one block
+-- a copy in a transaction is one block
 pub placed-size : (e : Engine) (i b k : ℕ) → IsPlain e → (placed : IsPlaced e i b k) → length placed.bytes ≡ e.shape.block_size
 placed-size e i b k plain placed =
     let batch = all-at (IsBatch e.layout e.shape) e.accepted i placed.batch plain.batches placed.stands in
     copy-size e.shape.block_size placed.batch.entries k b placed.bytes batch.whole placed.entry
 
--- of a block that may be touched
+-- it is of an allowed block
 pub placed-allowed : (e : Engine) (i b k : ℕ) → IsPlain e → IsPlaced e i b k → IsAllowedBlock e.layout e.shape.home_blocks b
 placed-allowed e i b k plain placed =
     let batch = all-at (IsBatch e.layout e.shape) e.accepted i placed.batch plain.batches placed.stands in
@@ -270,7 +270,7 @@ due-copy e p t k copy block bytes at n same made = record {
       (CopyHome t k n.index copy.block n.placed.bytes n.next);
 }
 
--- a call of the machine's is due
+-- a call of the machine is due
 due-at : (e : Engine) (due : Due) (bytes : List ℕ) (round : Round) (call : Call) (stepped : Engine) → e.round ≡ round → call_of due bytes ≡ Some call →
     RoundCall e round call stepped → HasDue e due bytes
 due-at e due bytes round call stepped at is there = record {
@@ -280,18 +280,18 @@ due-at e due bytes round call stepped at is there = record {
   round = subst (λ (r : Round). RoundCall e r call stepped) (sym at) there;
 }
 
--- where no copy is left, home is to be flushed
+-- if no copy is left, the flush of home is due
 pub due-flush : (e : Engine) (t k : ℕ) (bytes : List ℕ) → e.round ≡ Copies t k → ((i b : ℕ) (v : List ℕ) → IsUnwritten e t k i b v → ⊥) →
     HasDue e (FlushDue Home) bytes
 due-flush e t k bytes at none = due-at e (FlushDue Home) bytes (Copies t k) _ _ at refl (FlushHome t k none)
 
--- then the superblock is to be written
+-- then the write of the superblock is due
 pub due-tail : (e : Engine) (block : List ℕ) (sequence start : ℕ) → e.round ≡ TailWrite → block ≡ with_tail e.superblock sequence start →
     sequence ≡ e.first + e.bound → start ≡ ring_place e.ring e.bound_position → HasDue e (WriteDue Log 0) block
 due-tail e block sequence start at made number place =
     due-at e (WriteDue Log 0) block TailWrite _ _ at
     (ap (λ (v : List ℕ). Some (Write Log 0 v)) (made ∙ ap₂ (with_tail e.superblock) number place)) WriteTail
 
--- and then flushed
+-- then its flush is due
 pub due-release : (e : Engine) (bytes : List ℕ) → e.round ≡ TailFlush → HasDue e (FlushDue Log) bytes
 due-release e bytes at = due-at e (FlushDue Log) bytes TailFlush _ _ at refl FlushTail

@@ -1,4 +1,4 @@
--- What an engine that can run knows of its measures and of the transaction that it commits.
+-- What an engine that can run knows of sizes and of the transaction being committed.
 use Rattle.std.proofs.Common.{arith, inl, inr, refl, sym, ap, subst, ◌∙◌, le_refl}
 use Rattle.std.specs.Prelude.{◌≡◌, ◌≢◌, ◌⊎◌, ℕ, ◌+◌, ◌-◌, ◌*◌, ◌/◌, ◌^◌, ◌<◌, ◌≤◌, false, true, length, Some, slice_get}
 use Rattle.journal_model.specs.declared.entry.Batch.{Batch}
@@ -33,11 +33,11 @@ use Rattle.log_ledger.proofs.Copies.{counted}
 pub superblock-of : (e : Engine) → IsPlain e → IsSuperblock e.shape e.layout e.ring e.superblock
 superblock-of e plain = names-superblock e e.started e.superblock plain.names
 
--- the block size is one that a block may have
+-- the block size is allowed
 pub runs-size : (e : Engine) → IsPlain e → IsBlockSize e.shape.block_size
 runs-size e plain = subst IsBlockSize plain.layout.1 plain.layout.0.0
 
--- the ring has blocks behind the superblock, not too many, and lies within the log area
+-- the ring is after the superblock, within the log area, and has a few blocks
 pub record HasRing (e : Engine) : Type 0 where
   pub behind : 0 < e.ring.first
   pub some : 16 ≤ e.ring.blocks
@@ -55,11 +55,11 @@ runs-ring e plain =
     let inside : (super_in e.superblock).s_maxlen ≤ e.shape.log_blocks = accepted-within e.shape e.superblock is.accepted in
     record { behind = omega arith; some = omega arith; few = omega arith; within = omega arith }
 
--- not many blocks
+-- the ring has few blocks
 pub ring-few : (e : Engine) → IsPlain e → e.ring.blocks ≤ 1048576
 ring-few e plain = let few = (runs-ring e plain).few in omega arith
 
--- where a call is due, one transaction more is accepted than is committed
+-- if a call is due, one more transaction is accepted than is committed
 pub due-one : (e : Engine) (stage : Stage) → StageAgrees e stage → stage ≢ Idle → length e.accepted ≡ e.committed + 1
 due-one e Idle agrees busy = absurd (busy refl)
 due-one e SuperblockWrite agrees busy = agrees.0
@@ -68,15 +68,15 @@ due-one e (Blocks k) agrees busy = agrees.0
 due-one e CommitWrite agrees busy = agrees.0
 due-one e CommitFlush agrees busy = agrees.0
 
--- how many log blocks the copies and the revokes of a batch need
+-- the log blocks that a batch needs
 abbrev pub needed_by : Layout → Batch → ℕ
 needed_by l b = need l (length (copied b.entries)) (length (revoked b.entries))
 
--- its text takes just as many
+-- its text takes as many
 length-text : (e : Engine) (b : Batch) → IsPlain e → length (text_blocks (text_of e b)) ≡ needed_by e.layout b
 length-text e b plain = length_own_text e.layout e.uuid b.tid b.entries plain.layout.0
 
--- the blocks that are due are as many as the transaction needs
+-- there are as many due blocks as the transaction needs
 pub runs-blocks : (e : Engine) (b : Batch) → IsPlain e → slice_get e.accepted e.committed ≡ Some b → length (due_blocks e) ≡ needed_by e.layout b
 runs-blocks e b plain stands = ap length (due-of e b stands) ∙ length-text e b plain
 
@@ -85,7 +85,7 @@ most-numbers : (k size : ℕ) → (k ≡ 4) ⊎ (k ≡ 8) → size ≤ 4096 → 
 most-numbers k size (inl four) most = rw four (omega arith)
 most-numbers k size (inr eight) most = rw eight (omega arith)
 
--- a revoke block has no more than 1020 numbers, so all have that often no more than there are blocks
+-- a revoke block has at most 1020 numbers
 few-revokes : (l : Layout) (r : ℕ) → IsLayout l → r ≤ 1020 * ceil_div r (numbers_of l)
 few-revokes l r taken =
     let m = measures l taken in
@@ -95,17 +95,17 @@ few-revokes l r taken =
     let product = mul-le (numbers_of l) (ceil_div r (numbers_of l)) 1020 (ceil_div r (numbers_of l)) most (le_refl (ceil_div r (numbers_of l))) in
     omega arith
   where
-    -- a count, rounded up to groups, is no less
+    -- a count rounded up to groups is no less
     enough : (c n : ℕ) → 0 < n → c ≤ n * ceil_div c n
     enough c n positive = omega arith
 
--- what needs few blocks has few copies and few revokes
+-- a need of few blocks is one of few copies and few revokes
 pub few-needed : (l : Layout) (c r most : ℕ) → IsLayout l → need l c r ≤ most → most ≤ 1048576 → (c ≤ most) × (c + r ≤ 2 ^ 32)
 few-needed l c r most taken fits small =
     let revokes : r ≤ 1020 * ceil_div r (numbers_of l) = few-revokes l r taken in
     few-sum c r (ceil_div c (tags_of l)) (ceil_div r (numbers_of l)) most revokes fits small
   where
-    -- the sum is small where each part is
+    -- a sum is small if its parts are
     few-sum : (c r x y most : ℕ) → r ≤ 1020 * y → c + x + y + 1 ≤ most → most ≤ 1048576 → (c ≤ most) × (c + r ≤ 2 ^ 32)
     few-sum c r x y most revokes fits small = (omega arith, omega arith)
 
@@ -120,7 +120,7 @@ runs-few e b plain stands =
     let few = few-needed e.layout (length (copied b.entries)) (length (revoked b.entries)) e.ring.blocks plain.layout.0 fits ring in
     subst (λ (n : ℕ). n ≤ 2 ^ 32) (counted b.entries) few.1
 
--- the transaction that is being committed has the number that is due
+-- the transaction being committed has the due number
 pub runs-number : (e : Engine) (b : Batch) → IsPlain e → slice_get e.accepted e.committed ≡ Some b → b.tid ≡ e.first + e.committed
 runs-number e b plain stands = number-at e.first e.committed e.accepted b plain.numbered stands
 
@@ -128,7 +128,7 @@ runs-number e b plain stands = number-at e.first e.committed e.accepted b plain.
 pub need-of : (e : Engine) (b : Batch) → IsPlain e → HasRoom e b → e.start + needed_by e.layout b ≤ e.tail + e.ring.blocks
 need-of e b plain room = subst (λ (n : ℕ). e.start + n ≤ e.tail + e.ring.blocks) (length-text e b plain) room
 
--- an engine that may be handed a batch that there is room for takes it
+-- an engine takes an allowed batch that there is room for
 pub takes : (e new : Engine) (b : Batch) → e.aborted ≡ false → MayHandOver e b → HasRoom e b → new ≡ accepting e b → Accepts e b new
 takes e new b running may room after = record {
   running = running;
@@ -140,11 +140,11 @@ takes e new b running may room after = record {
   after = after;
 }
 
--- and can run with it
+-- it can run with that batch
 pub takes-runs : (e new : Engine) (b : Batch) → IsPlain e → MayHandOver e b → Accepts e b new → IsPlain new
 takes-runs e new b plain may accepts = accepts-plain e b new plain accepts
 
--- the head of the ring is far from the end of the numbers of 64 bits
+-- the head of the ring is far below 2 ^ 64
 pub head-small : (e : Engine) → IsPlain e → e.start + length (due_blocks e) + e.ring.blocks ≤ 2 ^ 64 - 1
 head-small e plain =
     let few : e.ring.blocks ≤ 1048576 = ring-few e plain in
@@ -153,7 +153,7 @@ head-small e plain =
     let product : length e.accepted * e.ring.blocks ≤ 4294967296 * 1048576 = mul-le (length e.accepted) e.ring.blocks 4294967296 1048576 many few in
     omega arith
 
--- an engine that can run can run when it is aborted, on a device of the same shape
+-- an aborted engine can run, on a device of the same shape
 pub fault-runs : (e : Engine) (shape : Shape) → IsPlain e → shape ≡ e.shape → IsPlain (record e { shape = shape; aborted = true })
 fault-runs e shape plain same =
     let here : IsPlain (record e { aborted = true }) = plain-at e e.stage e.stage e.aborted true plain plain.stage in

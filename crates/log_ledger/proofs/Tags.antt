@@ -22,7 +22,7 @@ pub length-tags : (first : Bool) (copies : List (ℕ × List ℕ)) → length (t
 length-tags first [] = refl
 length-tags first (c ∷ copies) = ap (λ (n : ℕ). suc n) (length-tags false copies)
 
--- one is the last where no other copy is behind it
+-- a tag is the last if no copy follows
 last-of : (c : ℕ × List ℕ) (copies : List (ℕ × List ℕ)) → is_empty copies ≡ nat_eq 1 (length (c ∷ copies))
 last-of c [] = refl
 last-of c (d ∷ copies) = grind (arith, nat_tests)
@@ -38,7 +38,7 @@ first-tag first c d copies is =
 same-last : (k n : ℕ) → nat_eq (k + 1) n ≡ nat_eq (suc k + 1) (suc n)
 same-last k n = grind (arith, nat_tests)
 
--- the tag at a place of those that are not the first ones of a descriptor
+-- a later tag at a place of a descriptor
 later-tag : (copies : List (ℕ × List ℕ)) (k : ℕ) (c : ℕ × List ℕ) → slice_get copies k ≡ Some c →
     slice_get (tags_from false copies) k ≡ Some (tag_of true (nat_eq (k + 1) (length copies)) c)
 later-tag [] k c is = absurd (none-some c is)
@@ -59,7 +59,7 @@ tag-at (d ∷ copies) (suc k) c is =
     behind : (k : ℕ) → true ≡ nat_lt 0 (suc k)
     behind k = grind (arith, nat_tests)
 
--- one more tag of the right ones is written
+-- one more right tag is written
 pub tag-more : (tags right : List Tag) (k : ℕ) (t : Tag) → length tags ≡ length right → take k tags ≡ take k right → slice_get right k ≡ Some t →
     take (k + 1) (set tags k t) ≡ take (k + 1) right
 tag-more tags right k t size same is =
@@ -77,7 +77,7 @@ escaped-is : (e : Entry) → IsLong e → is_escaped e ≡ begins_with_magic (by
 escaped-is (Copy v) long = refl
 escaped-is Revoke long = absurd long
 
--- the tag of an entry that is a copy, whose block and flag were found at two reads of it
+-- the tag of a copy, found at two reads
 pub tag-made : (entries : List (ℕ × Entry)) (place : ℕ) (d e : ℕ × Entry) (flag same last : Bool) →
     place < length entries → IsLong (entry_at entries place).1 → flag ≡ is_escaped (get_or entries place e).1 →
     Some (tag_of same last (copy_at entries place)) ≡ Some (record { block = (get_or entries place d).0; escaped = flag; same_uuid = same; last = last })

@@ -29,7 +29,7 @@ whole-entry : (size : ℕ) (e : Entry) → 0 < size → length (bytes_in e) ≡ 
 whole-entry size (Copy v) some full = full
 whole-entry size Revoke some full = absurd (omega arith)
 
--- a block has bytes, and enough for a header
+-- a block has enough bytes for a header
 some-bytes : (l : Layout) → IsLayout l → (0 < l.block_size) × (header_bytes ≤ l.block_size)
 some-bytes l taken = (omega (arith, taken.0), omega (arith, taken.0))
 
@@ -38,7 +38,7 @@ module _ (entries : List (ℕ × Entry)) (plan : Plan) (is : IsPlanOf entries pl
   pub count-copies : length plan.copies.items ≡ length (copied entries)
   count-copies = sym (length-at entries plan.copies.items) ∙ ap length is.copies
 
-  -- and as many revokes as it has numbers
+  -- as many revokes as the plan has numbers
   pub count-revokes : length plan.revokes.items ≡ length (revoked entries)
   count-revokes = ap length is.revokes
 
@@ -51,14 +51,14 @@ module _ (entries : List (ℕ × Entry)) (plan : Plan) (is : IsPlanOf entries pl
       ∙ map-part (copy_at entries) tags first plan.copies.items
       ∙ ap (λ (cs : List (ℕ × List ℕ)). take tags (drop first cs)) is.copies
 
-  -- what is so of each copy is so of these
+  -- what holds of each copy holds of these
   pub each-of : (P : ℕ × List ℕ → Type 0) (first tags to : ℕ) (places : List ℕ) → to ≡ first + tags → places ≡ plan.copies.items →
       All P (copied entries) → All P (copies_at entries (take (to - first) (drop first places)))
   each-of P first tags to places behind all each =
       subst (λ (cs : List (ℕ × List ℕ)). All P cs) (sym (copies-of first tags to places behind all))
       (All-take P tags (drop first (copied entries)) (All-drop P first (copied entries) each))
 
-  -- so they are long enough for a header where each is a block
+  -- they are long enough for a header, if each is a block
   pub long-of : (l : Layout) (first tags to : ℕ) (places : List ℕ) → to ≡ first + tags → places ≡ plan.copies.items → IsLayout l →
       All (λ c. length c.1 ≡ l.block_size) (copied entries) → All (λ c. header_bytes ≤ length c.1) (copies_at entries (take (to - first) (drop first places)))
   long-of l first tags to places behind all taken whole =
@@ -72,7 +72,7 @@ module _ (entries : List (ℕ × Entry)) (plan : Plan) (is : IsPlanOf entries pl
       let count : to - first ≡ numbers = omega arith in
       ap₂ (λ (n : ℕ) (bs : List ℕ). take n (drop first bs)) count (same ∙ is.revokes)
 
-  -- they fit a revoke block where they are few
+  -- few of them fit a revoke block
   pub revokes-fit : (l : Layout) (first numbers to : ℕ) (all : List ℕ) → to ≡ first + numbers → all ≡ plan.revokes.items → numbers ≤ numbers_of l →
       All (λ p. p.0 < every_number l) entries → FitRevokeBlock l (take (to - first) (drop first all))
   revokes-fit l first numbers to all behind same few below =
@@ -82,11 +82,11 @@ module _ (entries : List (ℕ × Entry)) (plan : Plan) (is : IsPlanOf entries pl
             (All-drop (λ b. b < every_number l) first (revoked entries) (revoked_below (every_number l) entries below));
       })
     where
-      -- of a front there are no more than were asked for
+      -- a front has no more elements than asked for
       few-of : (n : ℕ) (bs : List ℕ) → n ≤ numbers_of l → length (take n bs) ≤ numbers_of l
       few-of n bs few = let size = length-take n bs in omega arith
 
-  -- the entry at the place of a copy is one of the entries, and a copy of one block
+  -- the entry at a copy's place is a copy of one block
   pub whole-at : (l : Layout) (k place : ℕ) → IsLayout l → All (λ c. length c.1 ≡ l.block_size) (copied entries) → k < length (copied entries) →
       place ≡ get_or plan.copies.items k place → (place < length entries) × IsWholeCopy l.block_size (entry_at entries place).1
   whole-at l k place taken whole within here =
@@ -98,7 +98,7 @@ module _ (entries : List (ℕ × Entry)) (plan : Plan) (is : IsPlanOf entries pl
       let long : header_bytes ≤ length (copy_at entries place).1 = (let enough = some.1 in omega arith) in
       ((long-there entries place long).0, whole-entry l.block_size (entry_at entries place).1 some.0 full)
 
-  -- the copy is the one that the plan says
+  -- the copy is the one that the plan names
   copy-there : (k place : ℕ) → k < length (copied entries) → place ≡ get_or plan.copies.items k place → slice_get (copied entries) k ≡ Some (copy_at entries place)
   copy-there k place within here =
       let there : k < length plan.copies.items = subst (λ (n : ℕ). k < n) (sym count-copies) within in
@@ -106,7 +106,7 @@ module _ (entries : List (ℕ × Entry)) (plan : Plan) (is : IsPlanOf entries pl
       ∙ map-at (copy_at entries) plan.copies.items k (get_or plan.copies.items k place) (slice_get-get_or plan.copies.items k place there)
       ∙ ap (λ (p : ℕ). Some (copy_at entries p)) (sym here)
 
-  -- what stands for it is its copy, escaped
+  -- what stands for it in the log is its copy, escaped
   pub copy-of : (k place : ℕ) (d : ℕ × Entry) (block : List ℕ) → k < length (copied entries) → place ≡ get_or plan.copies.items k place → place < length entries →
       IsStored (get_or entries place d).1 block → block ≡ escaped (unwrap_or (slice_get (copied entries) k) (0, [])).1
   copy-of k place d block within here there stored =

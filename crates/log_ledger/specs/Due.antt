@@ -1,4 +1,4 @@
--- The device call that a step is to make, and that a device takes it.
+-- Which device call a step makes, and whether a device accepts it.
 use Rattle.std.specs.Prelude.{◌≡◌, ⊤, ℕ, ◌<◌, List, length, Option, Some, None}
 use Rattle.journal_model.specs.Disk.{Shape}
 use Rattle.block_device.specs.State.{blocks_in}
@@ -7,13 +7,12 @@ use Rattle.journal_world.specs.Call.Call.{Write, Flush}
 use Rattle.log_ledger.specs.declared.due.Due.{Due}
 use Rattle.log_ledger.specs.declared.due.Due.TheVariants.{Nothing, Write as WriteDue, Flush as FlushDue}
 
--- the device call that a step is to make, with the block that was built for it
+-- the device call, with the block that was built for it
 abbrev pub call_of : Due → List ℕ → Option Call
 call_of Nothing bytes = None
 call_of (WriteDue area place) bytes = Some (Write area place bytes)
 call_of (FlushDue area) bytes = Some (Flush area)
 
--- the call is one that the device takes
 abbrev pub Fits : Shape → Due → List ℕ → Type 0
 Fits shape Nothing bytes = ⊤
 Fits shape (WriteDue area place) bytes = (place < blocks_in shape area) × (length bytes ≡ shape.block_size)

@@ -1,4 +1,4 @@
--- The engine as the pure machine sees it, and what its ledger keeps.
+-- The engine that a ledger stands for in the pure machine, and what the ledger keeps.
 use Rattle.std.specs.Prelude.{◌≡◌, ◌⊎◌, ⊤, ℕ, ◌+◌, ◌<◌, ◌≤◌, nat_le, List, length, drop, filter, Some, slice_get, Contains}
 use Rattle.journal_model.specs.declared.entry.Batch.{Batch}
 use Rattle.journal_model.specs.declared.entry.Entry.TheVariants.{Copy}
@@ -14,7 +14,6 @@ use Rattle.log_ledger.specs.declared.ledger.Ledger.{Ledger}
 use Rattle.log_ledger.specs.declared.plan.Plan.{Plan}
 use Rattle.log_ledger.specs.Text.{IsPlanOf}
 
--- the engine that a ledger stands for, on a device of this shape
 abbrev pub engine_of : Shape → Ledger → Engine
 engine_of shape l = record {
   shape = shape;
@@ -36,11 +35,11 @@ engine_of shape l = record {
   aborted = l.aborted;
 }
 
--- the ring is taken up to the end of the transaction that is being committed
+-- the ring is taken up to the end of the transaction being committed
 pub record HasTaken (shape : Shape) (l : Ledger) : Type 0 where
   pub head : l.ring.head ≡ l.start + length (due_blocks (engine_of shape l))
 
--- the plan is that of the transaction that is being committed, where one is
+-- the plan of the transaction being committed, if any
 abbrev pub HasPlan : Engine → Plan → Type 0
 HasPlan e plan = (b : Batch) → slice_get e.accepted e.committed ≡ Some b → IsPlanOf b.entries plan
 
@@ -52,15 +51,15 @@ pub record IsPlaced (e : Engine) (i b k : ℕ) : Type 0 where
   pub stands : slice_get e.accepted i ≡ Some batch
   pub entry : slice_get batch.entries k ≡ Some (b, Copy bytes)
 
--- a pending copy is still to be written home: by the round that is under way, or by a later one
+-- still to be written home, by the current round or a later one
 abbrev pub IsStillUnwritten : Engine → Round → ℕ → ℕ → Type 0
 IsStillUnwritten e NoRound i b = ⊤
 IsStillUnwritten e (Copies transaction block) i b = (e.bound ≤ i) ⊎ IsFrom transaction block i b
 IsStillUnwritten e TailWrite i b = e.bound ≤ i
 IsStillUnwritten e TailFlush i b = e.bound ≤ i
 
--- what is kept of pending copies: just those of the machine, with where they stand and whether they are written; the copies
--- that are queued from any transaction on take no more room than its log blocks and those behind it
+-- the pending copies are the machine's, with their places, and whether they are written; those queued from a
+-- transaction on need no more room than its and later log blocks
 pub record KeepsPending (e : Engine) (p : PendingValue) : Type 0 where
   pub kept : ArePending p
   pub room : p.room ≡ e.ring.blocks
@@ -71,18 +70,16 @@ pub record KeepsPending (e : Engine) (p : PendingValue) : Type 0 where
   pub numbers : (t b : ℕ) → Contains p.queue (t, b) → (e.first + e.released ≤ t) × (t < e.first + e.committed)
   pub used : (i : ℕ) → e.released ≤ i → i ≤ e.committed → length (filter (λ x. nat_le (e.first + i) x.0) p.queue) + position e i ≤ e.start
 
--- the batches that are not released are kept
 abbrev pub HasKept : Ledger → Type 0
 HasKept l = l.kept.items ≡ drop l.released l.accepted.items
 
--- the ledger can run on a device of this shape
 pub record Runs (shape : Shape) (l : Ledger) : Type 0 where
   pub plain : IsPlain (engine_of shape l)
   pub taken : HasTaken shape l
   pub pending : KeepsPending (engine_of shape l) l.pending
   pub kept : HasKept l
 
--- there is a device on which it can run, with blocks of this size
+-- it can run on some device with blocks of this size
 pub record CanRunOn (l : Ledger) (size : ℕ) : Type 0 where
   pub shape : Shape
   pub runs : Runs shape l

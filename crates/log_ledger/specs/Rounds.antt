@@ -1,4 +1,4 @@
--- The device call of a round that a ledger finds due, and the ledger once it succeeded.
+-- Which call of a round a ledger finds due, and the ledger after it succeeded.
 use Rattle.std.specs.Prelude.{◌≡◌, ℕ, ◌+◌, ◌-◌, ◌≤◌, List, Some, slice_get}
 use Rattle.journal_model.specs.Disk.{Shape}
 use Rattle.checkpoint.specs.declared.version.HomeCopy.{HomeCopy}
@@ -12,14 +12,14 @@ use Rattle.log_ledger.specs.declared.ledger.Ledger.{Ledger}
 use Rattle.log_ledger.specs.Due.{call_of}
 use Rattle.log_ledger.specs.Ledger.{Runs, engine_of}
 
--- it is the machine's, with the block that was built for it
+-- the machine's due call, with the block that was built for it
 pub record HasDue (e : Engine) (due : Due) (bytes : List ℕ) : Type 0 where
   pub call : Call
   pub is : call_of due bytes ≡ Some call
   pub stepped : Engine
   pub round : RoundCall e e.round call stepped
 
--- a copy of one of the round's transactions is the one that is written home next
+-- the round's next copy
 pub record IsDueHome (l : Ledger) (copy : HomeCopy) : Type 0 where
   pub transaction : ℕ
   pub block : ℕ
@@ -28,7 +28,7 @@ pub record IsDueHome (l : Ledger) (copy : HomeCopy) : Type 0 where
   pub due : copy.version.tid ≤ l.first + l.bound - 1
   pub newest : newest_of l.pending copy.block ≡ Some copy.version
 
--- the ledger has gone on by the call that was due, and can run
+-- the ledger after the due call, which can run
 pub record HasGone (shape : Shape) (old new : Ledger) : Type 0 where
   pub call : Call
   pub round : RoundCall (engine_of shape old) old.round call (engine_of shape new)

@@ -1,4 +1,4 @@
-//! The superblock of the clean log that a close leaves, which has the number of the next transaction.
+//! Which superblock a close writes: that of a clean log with the next transaction's number.
 //! Source: fs/jbd2/journal.c by behaviour (a journal that is destroyed is marked empty); journal.rst (s_start 0).
 ghost use Rattle.std.specs.Prelude.{◌≡◌, ◌+◌, length};
 ghost use Rattle.journal_model.specs.Disk.{Shape};

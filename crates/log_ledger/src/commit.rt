@@ -1,5 +1,5 @@
-//! The steps of a commit: the superblock where the log is clean, the blocks of the transaction in log order, and its commit
-//! block, each behind the flush of what it relies on.
+//! Which device call of a commit is due: the superblock of a clean log, the transaction's blocks, its commit block, each
+//! after the flush of what it relies on.
 //! Source: fs/jbd2/commit.c by behaviour; that each step is one device call is this project's own.
 ghost use Rattle.std.specs.Prelude.{◌≡◌, ◌≢◌, ◌+◌, ◌-◌, ◌<◌, ◌≤◌, if◌then◌else◌, nat_lt, length, slice_get, Some};
 ghost use Rattle.journal_model.specs.Disk.{Shape};
@@ -21,7 +21,7 @@ use journal_world::Stage;
 use log_format::Super;
 
 impl Ledger {
-    /// The batch that is being committed.
+    /// The batch being committed.
     pub fn batch_due(&self) -> &Batch
         requires due { self.now.committed < length self.now.accepted.items }
         requires kept { HasKept self.now }
@@ -31,7 +31,6 @@ impl Ledger {
         self.batch(self.committed)
     }
 
-    /// The number of the transaction that is being committed.
     fn number_due(&self) -> u32
         requires can_run { CanRunOn self.now (length self.now.superblock.items) }
         requires due { self.now.committed < length self.now.accepted.items }
@@ -40,7 +39,6 @@ impl Ledger {
         self.first + self.committed as u32
     }
 
-    /// How many log blocks it takes: those that are taken behind the committed transactions.
     fn blocks_due(&self) -> u64
         requires can_run { CanRunOn self.now (length self.now.superblock.items) }
         ensures { (shape : Shape) → shape.block_size ≡ length self.now.superblock.items → result ≡ length (due_blocks (engine_of shape self.now)) }
@@ -48,7 +46,7 @@ impl Ledger {
         self.ring.head() - self.start
     }
 
-    /// The device call that is due. The block that it is to write is built by the writer, by the plan of the batch.
+    /// The due call. `writer` builds the block of a write, by the batch's plan.
     pub fn due(&self, writer: &mut TextWriter, plan: &Plan) -> Due
         requires can_run { CanRunOn self.now (length writer.old) }
         requires plan { (shape : Shape) → HasPlan (engine_of shape self.now) plan.now }
@@ -70,7 +68,6 @@ impl Ledger {
         }
     }
 
-    /// The write of block `k` of the batch that is being committed.
     fn due_block(&self, writer: &mut TextWriter, plan: &Plan, k: u64) -> Due
         requires can_run { CanRunOn self.now (length writer.old) }
         requires plan { (shape : Shape) → HasPlan (engine_of shape self.now) plan.now }
@@ -84,7 +81,7 @@ impl Ledger {
         Due::Write(Area::Log, self.ring.place(self.start + k))
     }
 
-    /// Notes that the device call that was due has succeeded.
+    /// Records that the due device call succeeded.
     pub fn advance(&mut self) -> Progress
         requires can_run { CanRunOn self.old (length self.old.superblock.items) }
         ensures stepped { (shape : Shape) → shape.block_size ≡ length self.old.superblock.items → engine_of shape self.new ≡ stepped (engine_of shape self.old) }
@@ -104,7 +101,6 @@ impl Ledger {
         }
     }
 
-    /// Another step is due.
     fn go_to(&mut self, stage: Stage) -> Progress
         ensures stage { self.new ≡ record self.old { stage = stage } }
         ensures step { result ≡ Step }
@@ -113,7 +109,7 @@ impl Ledger {
         Progress::Step
     }
 
-    /// The superblock says where the log begins.
+    /// The superblock now names the log's first transaction.
     fn start_log(&mut self) -> Progress
         requires can_run { CanRunOn self.old (length self.old.superblock.items) }
         requires stage { self.old.stage ≡ SuperblockWrite }
@@ -130,7 +126,7 @@ impl Ledger {
         self.go_to(Stage::SuperblockFlush)
     }
 
-    /// The stage behind block `k`, or behind the flush of all but the commit block.
+    /// The stage after block `k`, or after the flush of all but the commit block.
     fn after_block(&self, k: u64) -> Stage
         requires can_run { CanRunOn self.now (length self.now.superblock.items) }
         requires stage { self.now.stage ≡ Blocks k }

@@ -1,4 +1,4 @@
-//! What an engine knows beside its device.
+//! What an engine keeps apart from its device.
 ghost use Rattle.std.specs.Prelude.{◌≡◌, ◌+◌, ◌<◌, ◌≤◌, ◌↔◌, IsTrue, if◌then◌else◌, is_some, length, slice_index_or, IfErr, IfSome, OnErr, OnOk};
 ghost use Rattle.journal_model.specs.Transaction.{copied, revoked};
 ghost use Rattle.log_model.specs.Room.{need};
@@ -21,47 +21,41 @@ use std::collections::VecDeque;
 /// More copies, or more revokes, fit no ring.
 const MOST_OF_EITHER: u64 = 1 << 32;
 
-/// The transactions that were handed over, how far they are committed and released, and what they have taken of the ring.
+/// The accepted transactions, how far they are committed and released, and what they take of the ring.
 #[derive(Drop)]
 pub struct Ledger {
-    /// The ring, and what of it the transactions have taken that are not released.
+    /// The ring, with what unreleased transactions have taken.
     pub ring: Ring,
-    /// The position in it where the next transaction begins, or the one that is being committed.
+    /// The ring position of the next transaction, or of the one being committed.
     pub start: u64,
-    /// The layout of the log.
     pub layout: LogLayout,
-    /// The journal's UUID.
     pub uuid: [u8; 16],
-    /// Block 0 of the log, as it was last written.
+    /// Block 0 of the log, as last written.
     pub superblock: Vec<u8>,
-    /// It says where the log begins.
+    /// Whether it names the log's first transaction.
     pub started: bool,
     /// The number of the first transaction since the opening.
     pub first: u32,
     /// The transactions handed over since then.
     pub accepted: History<Batch>,
-    /// Those of them that are not released.
+    /// Those not released.
     pub kept: VecDeque<Batch>,
-    /// How many of them are committed.
     pub committed: usize,
-    /// How far the commit of the next one is.
     pub stage: Stage,
-    /// The newest copies of the committed ones that are not released.
+    /// The newest copies of committed, unreleased transactions.
     pub pending: Pending,
-    /// How many of the committed ones are released.
     pub released: usize,
-    /// How many are released once the checkpoint round is over; without a round, as many as are released.
+    /// How many are released after the checkpoint round; without a round `released`.
     pub bound: usize,
-    /// The position behind these.
+    /// The ring position after these.
     pub bound_position: u64,
-    /// How far the checkpoint round is.
     pub round: Round,
     /// The device has failed.
     pub aborted: bool,
 }
 
 impl Ledger {
-    /// The ledger of a log that was just opened, with this superblock: nothing is handed over yet. It takes no memory.
+    /// The ledger of a log just opened, without transactions. It takes no memory.
     pub fn new(alloc: Global, superblock: Vec<u8>, first: u32, pending: Pending) -> Self
         requires some { 0 < (super_in superblock.items).s_first }
         requires ring { (super_in superblock.items).s_first + least_ring ≤ (super_in superblock.items).s_maxlen }
@@ -94,7 +88,7 @@ impl Ledger {
         }
     }
 
-    /// How many log blocks a transaction of so many copies and revokes needs, where the ring has as many free ones.
+    /// The log blocks that the transaction needs, if as many are free; else `None`.
     pub fn room_for(&self, copies: usize, revokes: usize) -> Option<u64>
         requires can_run { CanRunOn self.now (length self.now.superblock.items) }
         requires idle { self.now.stage ≡ Idle }
@@ -111,7 +105,7 @@ impl Ledger {
         Some(blocks)
     }
 
-    /// The batch at this place among those that were handed over. It is not released.
+    /// An unreleased batch, by its place among the accepted ones.
     pub(crate) fn batch(&self, place: usize) -> &Batch
         requires kept { HasKept self.now }
         requires unreleased { self.now.released ≤ place }
@@ -121,7 +115,7 @@ impl Ledger {
         &self.kept[place - self.released]
     }
 
-    /// Makes room for one more batch, so that `take` of it makes no request for memory. Whatever comes of it, nothing changes.
+    /// Reserves memory for one more batch, so that its `take` requests none; nothing else changes.
     pub fn reserve(&mut self) -> Result<(), AllocError>
         ensures engine { (shape : Shape) → engine_of shape self.new ≡ engine_of shape self.old }
         ensures ring { self.new.ring ≡ self.old.ring }
@@ -131,8 +125,8 @@ impl Ledger {
         self.kept.reserve(1)
     }
 
-    /// Takes a batch that there is room for, and which needs so many log blocks; it is then to be committed. Where memory
-    /// runs out it comes back, and nothing changes.
+    /// Takes a batch that needs `blocks` free log blocks; it is then to be committed. If memory runs out it comes back, and
+    /// nothing changes.
     pub fn take(&mut self, batch: Batch, blocks: u64) -> Result<(), Batch>
         requires room { (shape : Shape) × Runs shape self.old × MayHandOver (engine_of shape self.old) batch × HasRoom (engine_of shape self.old) batch }
         requires blocks { blocks ≡ need self.old.layout (length (copied batch.entries)) (length (revoked batch.entries)) }
@@ -154,7 +148,6 @@ impl Ledger {
     }
 }
 
-/// The first stage of a commit, by whether the superblock says where the log begins.
 fn first_stage(started: bool) -> Stage
     ensures { result ≡ (if started then Blocks 0 else SuperblockWrite) }
 {

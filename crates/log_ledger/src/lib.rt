@@ -1,6 +1,5 @@
-//! What an engine knows beside its device: the transactions that were handed over, how far they are committed and released,
-//! and the pending copies. It says which device call is due next and builds the block that is to be written, and goes on once
-//! that call has succeeded. It makes no device call.
+//! What an engine keeps apart from its device: accepted transactions, how far they are committed and released, and pending
+//! copies. It says which device call is due and builds the block to write, but makes no call.
 #![tactic(auto)]
 
 mod close;

@@ -5,8 +5,7 @@ ghost use Rattle.log_ledger.specs.Text.{IsPlanOf};
 use journal_model::{BlockNo, Entry};
 use std::alloc::{AllocError, Global};
 
-/// The copies and the revokes of a transaction, each in the order of its entries, so that each of its log blocks is built
-/// without a look at any other entry.
+/// Copies and revokes in the order of the entries, so that a log block is built without a search.
 #[derive(Drop)]
 pub struct Plan {
     /// The places of the copies among the entries.
@@ -16,7 +15,7 @@ pub struct Plan {
 }
 
 impl Plan {
-    /// The plan of no entries. It takes no memory.
+    /// The plan of no entries.
     pub fn new(alloc: Global) -> Self
         ensures { IsPlanOf [] result }
     {
@@ -26,8 +25,7 @@ impl Plan {
         }
     }
 
-    /// Makes room for the plan of so many entries, so that `make` of no more of them makes no request for memory. Whatever comes of
-    /// it, it is the same plan: one that is in use stays so.
+    /// Reserves memory for a plan of so many entries, so that its `make` requests none. The plan stays the same.
     pub fn reserve(&mut self, entries: usize) -> Result<(), AllocError>
         ensures copies { self.new.copies.items ≡ self.old.copies.items }
         ensures revokes { self.new.revokes.items ≡ self.old.revokes.items }
@@ -39,9 +37,8 @@ impl Plan {
         self.revokes.try_reserve(further)
     }
 
-    /// Makes it the plan of these entries, in memory in proportion to them. Where memory runs out it is the plan of none of them.
-    /// Room for all of them is made at once, in either list, so that it makes two requests for memory at most, and none where it
-    /// was the plan of as many before.
+    /// Makes the plan of `entries`, in memory proportional to them: at most two requests, none after a plan of as many. If memory
+    /// runs out, it is the plan of no entries.
     pub fn make(&mut self, entries: &[(BlockNo, Entry)]) -> Result<(), AllocError>
         ensures { OnOk result (IsPlanOf entries.now self.new) }
     {

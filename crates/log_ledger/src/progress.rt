@@ -1,13 +1,13 @@
 //! How far a step has come.
 use journal_model::Tid;
 
-/// How far a step of a commit, or of a checkpoint round, has come.
+/// How far a step of a commit or checkpoint round has come.
 #[derive(Clone, Copy)]
 pub enum Progress {
-    /// There is nothing to do: nothing is being committed, or every committed transaction is released.
+    /// Nothing to do: no commit is under way, or all committed transactions are released.
     Idle,
-    /// One step was made, and another is due.
+    /// Another step is due.
     Step,
-    /// It was the last step: this transaction is committed, or all up to this one are released.
+    /// This transaction is committed, or all up to it are released.
     Done(Tid),
 }

@@ -1,5 +1,5 @@
-//! The steps of a checkpoint round: the copies of its transactions go home, home is flushed, and the superblock then names
-//! the place behind them. At the flush of that their log blocks are free.
+//! Which device call of a checkpoint round is due: copies go home, home is flushed, and the superblock names the new
+//! tail. Its flush frees log blocks.
 //! Source: fs/jbd2/checkpoint.c by behaviour; the order of the copies and that each step is one device call are this
 //! project's own.
 ghost use Rattle.std.specs.Prelude.{◌≡◌, ◌≢◌, ◌+◌, ◌-◌, ◌<◌, ℕ, IsTrue, false, length};
@@ -23,8 +23,8 @@ use journal_world::Round;
 use log_format::Super;
 
 impl Ledger {
-    /// Begins a round where none is under way and a committed transaction is not released: it releases all that are
-    /// committed by now. Answers whether a round is under way then.
+    /// Begins a round if none is under way and some committed transaction is unreleased; it releases all committed by
+    /// now. Answers whether a round is under way.
     pub fn begin_round(&mut self) -> bool
         requires can_run { CanRunOn self.old (length self.old.superblock.items) }
         ensures begun { IsTrue result → (shape : Shape) → Runs shape self.old →
@@ -46,7 +46,7 @@ impl Ledger {
         true
     }
 
-    /// The device call of the round that is due. The block that it is to write is built by the writer.
+    /// The round's due call. `writer` builds the block of a write.
     pub fn round_due(&self, writer: &mut TextWriter) -> Due
         requires can_run { CanRunOn self.now (length writer.old) }
         requires round { self.now.round ≢ NoRound }
@@ -69,7 +69,7 @@ impl Ledger {
         }
     }
 
-    /// Notes that the device call of the round has succeeded.
+    /// Records that the round's device call succeeded.
     pub fn advance_round(&mut self) -> Progress
         requires can_run { CanRunOn self.old (length self.old.superblock.items) }
         requires round { self.old.round ≢ NoRound }
@@ -87,7 +87,7 @@ impl Ledger {
         }
     }
 
-    /// The number of the last transaction that the round releases.
+    /// The last transaction that the round releases.
     fn last_of_round(&self) -> Tid
         requires can_run { CanRunOn self.now (length self.now.superblock.items) }
         requires round { self.now.round ≢ NoRound }
@@ -97,7 +97,6 @@ impl Ledger {
         Tid(self.first + (self.bound - 1) as u32)
     }
 
-    /// The number of the transaction behind it.
     fn number_behind(&self) -> u32
         requires can_run { CanRunOn self.now (length self.now.superblock.items) }
         ensures { result ≡ self.now.first + self.now.bound }
@@ -105,7 +104,7 @@ impl Ledger {
         self.first + self.bound as u32
     }
 
-    /// The place behind the round's transactions, where the log begins once they are released.
+    /// The log place where the log begins once the round's transactions are released.
     fn new_tail(&self) -> u32
         ensures { result ≡ ring_place self.now.ring.ring self.now.bound_position }
     {
@@ -126,7 +125,6 @@ impl Ledger {
         }
     }
 
-    /// The write of a copy to its home block.
     fn home_write(&self, writer: &mut TextWriter, copy: HomeCopy) -> Due
         requires can_run { CanRunOn self.now (length writer.old) }
         requires next { IsDueHome self.now copy }
@@ -138,7 +136,6 @@ impl Ledger {
         Due::Write(Area::Home, copy.block.0)
     }
 
-    /// Another step of the round is due.
     fn go_round(&mut self, round: Round) -> Progress
         ensures round { self.new ≡ record self.old { round = round } }
         ensures step { result ≡ Step }
@@ -147,7 +144,6 @@ impl Ledger {
         Progress::Step
     }
 
-    /// A copy is written home.
     fn wrote_home(&mut self, copy: HomeCopy) -> Progress
         requires can_run { CanRunOn self.old (length self.old.superblock.items) }
         requires next { IsDueHome self.old copy }
@@ -162,7 +158,6 @@ impl Ledger {
         })
     }
 
-    /// The superblock names the place behind the round's transactions.
     fn wrote_tail(&mut self) -> Progress
         requires can_run { CanRunOn self.old (length self.old.superblock.items) }
         requires round { self.old.round ≡ TailWrite }
@@ -176,7 +171,7 @@ impl Ledger {
         self.go_round(Round::TailFlush)
     }
 
-    /// The round's transactions are released: their ring blocks are free, and their copies are pending no more.
+    /// Ring blocks of the round's transactions are free, and their copies no longer pending.
     fn release(&mut self) -> Progress
         requires can_run { CanRunOn self.old (length self.old.superblock.items) }
         requires round { self.old.round ≡ TailFlush }

@@ -1,4 +1,4 @@
-//! The log blocks of a transaction, built one at a time.
+//! How the log blocks of a transaction are built, one at a time.
 ghost use Rattle.std.specs.Prelude.{◌≡◌, ◌+◌, ◌^◌, ◌<◌, ◌≤◌, true, length, IfOk, All};
 ghost use Rattle.log_model.specs.Descriptor.{descriptor_block};
 ghost use Rattle.journal_model.specs.Layout.{Layout as LayoutOf, IsLayout, every_number, header_bytes, tags_of};
@@ -19,7 +19,7 @@ use log_ring::{Layout, Part};
 use std::alloc::{AllocError, Global};
 use std::marker::Model;
 
-/// Builds the log blocks of transactions in a buffer of one block.
+/// Builds log blocks in a buffer of one block.
 #[derive(Drop)]
 pub struct TextWriter {
     block: Vec<u8>,
@@ -37,7 +37,7 @@ impl Model for TextWriter {
     ghost invariant = { λ w. HasRoomFor (length w.block.items) (length w.tags.items) };
 }
 
-/// The most tags that the writer puts into a descriptor of this block size, whatever the width of block numbers.
+/// The most tags of a descriptor of this block size, for either width of block numbers.
 fn most_tags(layout: LogLayout) -> usize
     requires { IsLayout layout }
     ensures { (l : LayoutOf) → IsLayout l → layout.block_size ≡ l.block_size → tags_of l ≤ result }
@@ -46,7 +46,11 @@ fn most_tags(layout: LogLayout) -> usize
 }
 
 impl TextWriter {
-    /// A writer for logs of this layout. It fails where memory runs out.
+    /// A writer for logs of this layout.
+    ///
+    /// # Errors
+    ///
+    /// `AllocError`: memory ran out.
     pub fn new(alloc: Global, layout: LogLayout) -> Result<Self, AllocError>
         requires { IsLayout layout }
         ensures { IfOk result (λ w. length w ≡ layout.block_size) }
@@ -57,14 +61,14 @@ impl TextWriter {
         })
     }
 
-    /// The block that was built last.
+    /// The block built last.
     pub fn bytes(&self) -> &[u8]
         ensures { result.now ≡ self.now }
     {
         &self.block
     }
 
-    /// Builds block `k` of a transaction, counted from 0: a revoke block, a descriptor, a copy, or the commit block.
+    /// Builds block `k` of a transaction, counted from 0.
     pub(crate) fn write_block(
         &mut self,
         layout: LogLayout,
@@ -95,7 +99,6 @@ impl TextWriter {
         );
     }
 
-    /// Puts these bytes of one block in the place of what was built.
     pub(crate) fn put(&mut self, bytes: &[u8])
         requires { length bytes.now ≡ length self.old }
         ensures block { self.new ≡ bytes.now }
@@ -104,7 +107,6 @@ impl TextWriter {
         self.block.copy_from_slice(bytes);
     }
 
-    /// Builds the superblock with another s_sequence and s_start.
     pub(crate) fn write_superblock(&mut self, superblock: &[u8], sequence: u32, start: u32)
         requires { length superblock.now ≡ length self.old }
         ensures block { self.new ≡ with_tail superblock.now sequence start }
@@ -115,7 +117,6 @@ impl TextWriter {
     }
 }
 
-/// Writes block `k` of the transaction with these entries, which has this plan.
 fn write_log_block(
     layout: LogLayout,
     block: &mut [u8],
@@ -149,7 +150,6 @@ fn write_log_block(
     );
 }
 
-/// Writes the part of the transaction with these entries, which has this plan.
 fn write_part(
     layout: LogLayout,
     block: &mut [u8],
@@ -188,7 +188,6 @@ fn write_part(
     }
 }
 
-/// Writes the descriptor of the copies at these places among the entries.
 fn write_descriptor(
     layout: LogLayout,
     block: &mut [u8],
@@ -211,7 +210,6 @@ fn write_descriptor(
     Descriptor::write(layout, block, uuid, sequence, tags);
 }
 
-/// Makes the tags of one descriptor, one for each of the copies at these places.
 fn make_tags(tags: &mut [Tag], entries: &[(BlockNo, Entry)], places: &[usize])
     requires room { length tags.old ≡ length places.now }
     requires long { All (λ c. header_bytes ≤ length c.1) (copies_at entries.now places.now) }
@@ -228,7 +226,6 @@ fn make_tags(tags: &mut [Tag], entries: &[(BlockNo, Entry)], places: &[usize])
     }
 }
 
-/// Whether the entry is a copy that has to be escaped.
 fn begins_with_magic(entry: &Entry) -> bool
     requires { IsLong entry.now }
     ensures { result ≡ is_escaped entry.now }
@@ -239,7 +236,6 @@ fn begins_with_magic(entry: &Entry) -> bool
     }
 }
 
-/// Writes what stands in the log for a copy.
 fn write_copy(block: &mut [u8], entry: &Entry)
     requires size { IsBlockSize (length block.old) }
     requires copy { IsWholeCopy (length block.old) entry.now }

@@ -1,4 +1,4 @@
--- A text of a home area is one of any larger home area too.
+-- A text for a home area is one for any larger home area.
 use Rattle.std.proofs.Common.{◌≡◌, ℕ, ◌<◌, ◌≤◌, ◌^◌, List, [], ◌∷◌, length, arith, min}
 use Rattle.std.specs.Prelude.{All}
 use Rattle.std.specs.List.{AllByRecursion}
@@ -13,7 +13,7 @@ use Rattle.log_model.specs.OwnText.{own_text}
 use Rattle.log_model.specs.Text.{IsPiece, IsText}
 use Rattle.log_model.proofs.OwnTextWhole.{own_text_is}
 
--- a piece, pieces and a text
+-- a piece stays one for a larger home area
 piece_weaker : (l : Layout) (low high sequence : ℕ) (p : Piece) → low ≤ high → IsPiece l low sequence p → IsPiece l high sequence p
 piece_weaker l low high sequence (Revokes block numbers) le is = record {
   has_header = is.has_header;
@@ -38,7 +38,7 @@ pieces_weaker l low high sequence (p ∷ ps) le all = (piece_weaker l low high s
 pub text_weaker : (l : Layout) (low high sequence : ℕ) (t : Text) → low ≤ high → IsText l low sequence t → IsText l high sequence t
 text_weaker l low high sequence t le is = record { pieces = pieces_weaker l low high sequence t.pieces le is.pieces; commit = is.commit }
 
--- the own text of entries whose blocks may be touched is a text
+-- the own text of allowed entries is a text
 pub own_text_of_allowed : (l : Layout) (uuid : List ℕ) (count sequence : ℕ) (entries : List (ℕ × Entry)) →
     IsLayout l → length uuid ≡ uuid_bytes → sequence < 2 ^ 32 → All (λ p. IsAllowedBlock l count p.0) entries →
     IsText l count sequence (own_text l uuid sequence entries)

@@ -1,4 +1,4 @@
--- At most one copy of a block in a chain is the newest live one, so replay makes one volume.
+-- A block has at most one newest live copy in a chain.
 use Rattle.std.proofs.Common.{◌≡◌, ◌⊎◌, inl, inr, ℕ, ◌-◌, ◌<◌, ◌≤◌, List, Some, slice_get, get_or, length, refl, sym, ◌∙◌, ap, subst, arith}
 use Rattle.std.proofs.lemmas.Bool.{cases_eq, cases_lt}
 use Rattle.std.proofs.lemmas.Option.{same_Some, some_pair_parts, slice_get_read, get_or_from_slice_get}
@@ -7,7 +7,7 @@ use Rattle.log_model.specs.Replay.{IsCovered, IsLive, IsNewest, IsReplayed}
 use Rattle.log_model.specs.Text.{text_copies}
 use Rattle.journal_model.specs.Transaction.{Volume}
 
--- two places in a chain, each at or before the other, are one
+-- two places, each at or before the other, are equal
 same_place : (i j k m : ℕ) → (j < i) ⊎ ((j ≡ i) × (m ≤ k)) → (i < j) ⊎ ((i ≡ j) × (k ≤ m)) → (i ≡ j) × (k ≡ m)
 same_place i j k m one other = (grind arith, grind arith)
 
@@ -18,13 +18,13 @@ live-same texts b i j k m one other row place p q =
     let copy : Some (b, one) ≡ Some (b, other) = sym p.copy ∙ ap (λ t. slice_get (text_copies t) k) text ∙ ap (slice_get (text_copies q.text)) place ∙ q.copy in
     (some_pair_parts b b one other copy).1
 
--- of two newest copies of a block, each is the other
+-- two newest copies of a block are equal
 pub newest-same : (texts : List Text) (b : ℕ) (one other : List ℕ) → IsNewest texts b one → IsNewest texts b other → one ≡ other
 newest-same texts b one other p q =
     let place : (p.i ≡ q.i) × (p.k ≡ q.k) = same_place p.i q.i p.k q.k (p.newest q.i q.k other q.live) (q.newest p.i p.k one p.live) in
     live-same texts b p.i q.i p.k q.k one other place.0 place.1 p.live q.live
 
--- replay of one chain over one volume makes one volume
+-- a replay of one chain over one volume makes one volume
 pub replayed-same : (count : ℕ) (texts : List Text) (left one other : Volume) → IsReplayed count texts left one → IsReplayed count texts left other → (b : ℕ) → b < count → one b ≡ other b
 replayed-same count texts left one other p q b below =
     elim (p b below) [
@@ -47,7 +47,7 @@ live-among texts b i k text bytes below read live =
     same_Some live.text text (sym live.stands ∙ slice_get_read texts (length texts) i text refl below read) in
     ap (λ t. slice_get (text_copies t) k) (sym same) ∙ live.copy
 
--- the last copy of a block in an uncovered text is the last live one there
+-- the last copy of a block in an uncovered text is its last live one
 pub live-last : (texts : List Text) (b i k : ℕ) (text : Text) (bytes : List ℕ) (d : ℕ × List ℕ) →
     (IsCovered texts i b → ⊥) → i < length texts → text ≡ get_or texts i text →
     (w : List ℕ) × (slice_get (text_copies text) k ≡ Some (b, w)) →
@@ -64,7 +64,7 @@ live-last texts b i k text bytes d uncovered below read (w, copy) last made =
     } in
     (k, live, λ m other l. last m other (live-among texts b i m text other below read l))
 
--- no copy is live from text n on, and none in the text before: none is live from there on
+-- no copy is live from a text on, if none is later and none is in it
 pub none-live-from : (texts : List Text) (b n : ℕ) → ((j k : ℕ) (bytes : List ℕ) → n ≤ j → IsLive texts b j k bytes → ⊥) →
     ((k : ℕ) (bytes : List ℕ) → IsLive texts b (n - 1) k bytes → ⊥) →
     (j k : ℕ) (bytes : List ℕ) → n - 1 ≤ j → IsLive texts b j k bytes → ⊥
@@ -74,7 +74,7 @@ none-live-from texts b n later here j k bytes from live =
       | inr other ↦ later j k bytes (omega arith) live
     ]
 
--- no copy is live from text n on, and this is the last live one of the text before: it is the newest
+-- the last live copy of a text is the newest, if none is later
 pub newest-from-last : (texts : List Text) (b n : ℕ) (bytes : List ℕ) → ((j k : ℕ) (bytes : List ℕ) → n ≤ j → IsLive texts b j k bytes → ⊥) →
     (k : ℕ) × IsLive texts b (n - 1) k bytes × ((m : ℕ) (other : List ℕ) → IsLive texts b (n - 1) m other → m ≤ k) →
     IsNewest texts b bytes

@@ -1,4 +1,4 @@
--- The descriptor block that the writer makes of some copies, and the copies behind it.
+-- The writer's descriptor block of some copies, and the copies after it.
 use Rattle.std.proofs.Common.{refl, ap, ap₂, sym, ◌∙◌, arith, le_of_eq, le_trans, length-append}
 use Rattle.std.specs.Prelude.{◌≡◌, ℕ, suc, ◌+◌, ◌*◌, ◌^◌, ◌<◌, ◌≤◌, Bool, true, false, not, if◌then◌else◌, List, [], ◌∷◌, ◌++◌, length, map, All}
 use Rattle.std.specs.List.{flat_map, zip}
@@ -29,7 +29,7 @@ tags_below count first (c ∷ cs) below =
     let others = tags_below count false cs (All-tail (λ d. d.0 < count) c cs below) in
     All-cons (λ t. t.block < count) _ (tags_from false cs) (All-head (λ d. d.0 < count) c cs below) others
 
--- a descriptor's header and tags are read back, whatever stands behind them
+-- a descriptor's header and tags are read back, whatever stands after them
 descriptor_bytes_are : (l : Layout) (uuid rest : List ℕ) (count sequence : ℕ) (c : ℕ × List ℕ) (cs : List (ℕ × List ℕ)) →
     IsLayout l → length uuid ≡ uuid_bytes → count ≤ every_number l → sequence < 2 ^ 32 → All (λ d. d.0 < count) (c ∷ cs) →
     IsDescriptor l count sequence
@@ -44,7 +44,7 @@ descriptor_bytes_are l uuid rest count sequence c cs layout size spells small be
       below = tags_below count true (c ∷ cs) below;
     }
 
--- what the writer makes of a group of copies is a descriptor block of their tags
+-- a group of copies makes a descriptor block of their tags
 descriptor_block_is : (l : Layout) (uuid : List ℕ) (count sequence : ℕ) (copies : List (ℕ × List ℕ)) →
     IsLayout l → length uuid ≡ uuid_bytes → count ≤ every_number l → sequence < 2 ^ 32 → 0 < length copies → All (λ d. d.0 < count) copies →
     IsDescriptor l count sequence (descriptor_block l uuid sequence (tags_from true copies)) (tags_from true copies)
@@ -53,7 +53,7 @@ descriptor_block_is l uuid count sequence [] layout size spells small some below
 descriptor_block_is l uuid count sequence (c ∷ cs) layout size spells small some below =
     descriptor_bytes_are l uuid _ count sequence c cs layout size spells small below
 
--- with the escaped copies behind it, it is a piece of a text
+-- with the escaped copies after it, it is a piece of a text
 pub copies_are : (l : Layout) (uuid : List ℕ) (count sequence : ℕ) (copies : List (ℕ × List ℕ)) →
     IsLayout l → length uuid ≡ uuid_bytes → count ≤ every_number l → sequence < 2 ^ 32 → IsGroup (λ d. d.0 < count) (tags_of l) copies →
     HasCopies l count sequence (descriptor_block l uuid sequence (tags_from true copies)) (tags_from true copies) (map (λ c. escaped c.1) copies)
@@ -63,12 +63,12 @@ copies_are l uuid count sequence copies layout size spells small group =
       each_tag = length-map copies (λ c. escaped c.1) ∙ sym (length-tags_from true copies);
     }
 
--- a UUID stands behind the first tag alone
+-- a UUID follows the first tag alone
 uuid_once : (first : Bool) → (if not first then 0 else uuid_bytes) ≡ (if first then uuid_bytes else 0)
 uuid_once true = refl
 uuid_once false = refl
 
--- the bytes that tags take: one UUID at most is among them
+-- the bytes of tags include at most one UUID
 length_tags : (l : Layout) (uuid : List ℕ) (first : Bool) (copies : List (ℕ × List ℕ)) →
     4 ≤ l.number_bytes → length uuid ≡ uuid_bytes →
     length (flat_map (tag_spelling l uuid) (tags_from first copies)) ≤ length copies * tag_bytes l + (if first then uuid_bytes else 0)

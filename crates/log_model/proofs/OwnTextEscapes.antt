@@ -6,11 +6,11 @@ use Rattle.std.proofs.lemmas.Slice.Eq.{starts_is}
 use Rattle.journal_model.specs.Layout.{begins_with_magic, magic_bytes}
 use Rattle.log_model.specs.Escape.{escaped, unescaped}
 
--- a list that begins with the magic is the magic, and then the rest
+-- a list that begins with the magic is the magic and the rest
 magic_first : (v : List ℕ) → begins_with_magic v ≡ true → v ≡ magic_bytes ++ drop 4 v
 magic_first v begins = (starts_is Decides-eqb v magic_bytes (begins_with_magic v) refl).0 begins
 
--- a copy is the same again after it was escaped and unescaped
+-- a copy is restored after it was escaped and unescaped
 pub unescaped-escaped : (v : List ℕ) → unescaped (begins_with_magic v) (escaped v) ≡ v
 unescaped-escaped v = go (begins_with_magic v) refl
   where
@@ -18,7 +18,7 @@ unescaped-escaped v = go (begins_with_magic v) refl
     go true begins = sym (magic_first v begins)
     go false begins = refl
 
--- an escaped copy is as long as the copy, where that has four bytes
+-- escaping keeps the length of at least four bytes
 pub length-escaped : (v : List ℕ) → 4 ≤ length v → length (escaped v) ≡ length v
 length-escaped v long = go (begins_with_magic v)
   where

@@ -1,4 +1,4 @@
--- The groups of a list: how many there are, what is true of each, and that together they are the list.
+-- The groups of a list: their number, their elements, and their join.
 use Rattle.std.proofs.Common.{ap, sym, ◌∙◌, arith, mul-zero, le-div_iff_mul-le, length-take, length-drop, drop-drop, take_all, take-add}
 use Rattle.std.specs.Prelude.{◌≡◌, ℕ, zero, suc, ◌+◌, ◌-◌, ◌*◌, ◌<◌, ◌≤◌, List, ◌++◌, length, take, drop, map, All}
 use Rattle.std.specs.List.{AllByRecursion, flat_map, range_with_len}
@@ -6,7 +6,7 @@ use Rattle.std.proofs.lemmas.List.Elements.{All-take, All-drop}
 use Rattle.std.proofs.lemmas.List.FromFn.{length-map-range_with_len}
 use Rattle.log_model.specs.OwnText.{ceil_div, groups}
 
--- a part of the list that is one group: one element at least, n at most
+-- a group: at least one element and at most n, each with P
 pub record IsGroup {X : Type 0} (P : X → Type 0) (n : ℕ) (group : List X) : Type 0 where
   pub some : 0 < length group
   pub most : length group ≤ n
@@ -16,12 +16,12 @@ pub record IsGroup {X : Type 0} (P : X → Type 0) (n : ℕ) (group : List X) : 
 enough_groups : (c n : ℕ) → 0 < n → c ≤ n * ceil_div c n
 enough_groups c n positive = omega arith
 
--- no group begins behind the last element
+-- no group begins after the last element
 pub begins_within : (c n k : ℕ) → 0 < n → k < ceil_div c n → n * k < c
 begins_within c n k positive within =
     let most : suc k * n ≤ c + n - 1 = (le-div_iff_mul-le positive).0 within in omega arith
 
--- what is left behind one group more
+-- the rest after one more group
 drop_next : {X : Type 0} (n a : ℕ) (xs : List X) → drop (n * (a + 1)) xs ≡ drop n (drop (n * a) xs)
 drop_next n a xs = ap (λ k. drop k xs) (omega arith) ∙ sym (drop-drop n (n * a) xs)
 
@@ -33,7 +33,7 @@ joined_from n a (suc m) xs =
     ap (λ ys. take n (drop (n * a) xs) ++ ys) (joined_from n (a + 1) m xs ∙ ap (λ ys. take (n * m) ys) (drop_next n a xs))
     ∙ sym (take-add n (n * m) (drop (n * a) xs)) ∙ ap (λ k. take k (drop (n * a) xs)) (omega arith)
 
--- the group at k, where it begins before the end
+-- group k, if it begins before the end
 group_at : {X : Type 0} (P : X → Type 0) (n k : ℕ) (xs : List X) →
     0 < n → All P xs → n * k < length xs →
     IsGroup P n (take n (drop (n * k) xs))
@@ -67,7 +67,7 @@ pub length-groups : {X : Type 0} (n : ℕ) (xs : List X) → length (groups n xs
 unfolding groups
 length-groups n xs = length-map-range_with_len _ _ _
 
--- each group has one element at least and n at most, and what is true of each element of the list is true of each of its
+-- each group has 1 to n elements, with the facts of the list's
 pub groups_are : {X : Type 0} (P : X → Type 0) (n : ℕ) (xs : List X) →
     0 < n → All P xs →
     AllByRecursion (IsGroup P n) (groups n xs)

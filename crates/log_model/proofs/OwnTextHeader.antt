@@ -1,11 +1,11 @@
--- The measures of a layout, and the header and the padding of each block that the writer makes.
+-- The sizes of a layout, and the header and padding of written blocks.
 use Rattle.std.proofs.Common.{refl, arith, inl, inr, le-div_iff_mul-le, length-append}
 use Rattle.std.specs.Prelude.{◌≡◌, ◌⊎◌, ℕ, ◌+◌, ◌-◌, ◌*◌, ◌/◌, ◌^◌, ◌<◌, ◌≤◌, List, ◌++◌, length}
 use Rattle.std.proofs.lemmas.List.{length-replicate}
 use Rattle.journal_model.specs.Layout.{Layout, IsLayout, HasHeader, big_endian, every_number, header, magic_bytes, numbers_of, padded, tag_bytes, tags_of}
 use Rattle.log_model.proofs.OwnTextNumbers.{number_behind_bytes}
 
--- the bounds within which the measures of a layout lie
+-- the bounds of a layout's sizes
 pub record HasMeasures (l : Layout) : Type 0 where
   pub small : 4 ≤ l.number_bytes
   pub large : l.number_bytes ≤ 8
@@ -39,7 +39,7 @@ fits_bytes : (k n : ℕ) → (k ≡ 4) ⊎ (k ≡ 8) → n < 2 ^ (8 * k) → n <
 fits_bytes k n (inl four) below = rw four (rw four at below)
 fits_bytes k n (inr eight) below = rw eight (rw eight at below)
 
--- and its part above 2 ^ 32 fits what is left of them behind four
+-- the part above 2 ^ 32 fits the bytes after the first four
 fits_high_bytes : (k n : ℕ) → (k ≡ 4) ⊎ (k ≡ 8) → n < 2 ^ (8 * k) → n / 2 ^ 32 < 256 ^ (k - 4)
 fits_high_bytes k n (inl four) below = rw four (let least : n < 2 ^ 32 = rw four at below in omega arith)
 fits_high_bytes k n (inr eight) below = rw eight (let least : n < 2 ^ 64 = rw eight at below in omega arith)
@@ -48,7 +48,7 @@ fits_high_bytes k n (inr eight) below = rw eight (let least : n < 2 ^ 64 = rw ei
 pub spellable : (l : Layout) (n : ℕ) → IsLayout l → n < every_number l → n < 256 ^ l.number_bytes
 spellable l n layout below = fits_bytes l.number_bytes n layout.1 below
 
--- the part of it above 2 ^ 32 fits the bytes behind the first four
+-- its part above 2 ^ 32 fits the bytes after the first four
 pub high_spellable : (l : Layout) (n : ℕ) → IsLayout l → n < every_number l → n / 2 ^ 32 < 256 ^ (l.number_bytes - 4)
 high_spellable l n layout below = fits_high_bytes l.number_bytes n layout.1 below
 

@@ -1,4 +1,4 @@
--- A number that is written as bytes is read back from them, whatever stands before and behind.
+-- A number written as bytes is read back, whatever stands before and after.
 use Rattle.std.proofs.Common.{refl, ap, ap₂, sym, ◌∙◌, arith, add-suc}
 use Rattle.std.specs.Prelude.{◌≡◌, ℕ, zero, suc, ◌+◌, ◌*◌, ◌/◌, ◌%◌, ◌^◌, ◌<◌, List, [], ◌∷◌, ◌++◌, length}
 use Rattle.std.specs.Int.{byte_at}
@@ -7,12 +7,12 @@ use Rattle.std.proofs.Math.Arith.{mod-mul}
 use Rattle.std.proofs.Math.Nat.{pow-succ', one-le-pow, mod-eq_of_lt}
 use Rattle.journal_model.specs.Layout.{big_endian, number_at}
 
--- as many bytes are written as are asked for
+-- `big_endian k` has k bytes
 pub length-big_endian : (k n : ℕ) → length (big_endian k n) ≡ k
 length-big_endian zero n = refl
 length-big_endian (suc k) n = ap suc (length-big_endian k n)
 
--- a number behind other bytes is read as where they do not stand
+-- a number after other bytes reads the same without them
 pub number_behind : (xs ys : List ℕ) (at k : ℕ) → number_at (length xs + at) k (xs ++ ys) ≡ number_at at k ys
 number_behind xs ys at zero = refl
 number_behind xs ys at (suc k) =
@@ -30,7 +30,7 @@ mod_more k n =
     ap (λ m. n % m) (pow-succ' 256 k) ∙ mod-mul n (omega arith) (one-le-pow k 256 (omega arith))
     ∙ ap (λ b. b * 256 ^ k + n % 256 ^ k) (sym (byte_is k n))
 
--- what is written in k bytes is read as the number's remainder by 256 ^ k
+-- k bytes read as the number's remainder by 256 ^ k
 pub number_in_big_endian_mod : (k n : ℕ) (ys : List ℕ) → number_at 0 k (big_endian k n ++ ys) ≡ n % 256 ^ k
 number_in_big_endian_mod zero n ys = omega arith
 number_in_big_endian_mod (suc k) n ys =
@@ -41,7 +41,7 @@ number_in_big_endian_mod (suc k) n ys =
 pub number_in_big_endian : (k n : ℕ) (ys : List ℕ) → n < 256 ^ k → number_at 0 k (big_endian k n ++ ys) ≡ n
 number_in_big_endian k n ys below = number_in_big_endian_mod k n ys ∙ mod-eq_of_lt below
 
--- the same, behind other bytes
+-- a number after other bytes is read back from k bytes
 pub number_behind_bytes : (xs ys : List ℕ) (at k n : ℕ) →
     length xs ≡ at → n < 256 ^ k →
     number_at at k (xs ++ (big_endian k n ++ ys)) ≡ n

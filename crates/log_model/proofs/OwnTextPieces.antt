@@ -1,4 +1,4 @@
--- The pieces of the own text: what they say, how many blocks they have, and that each of those has the block size.
+-- The pieces of the own text: what they say, and that their blocks have the block size.
 use Rattle.std.proofs.Common.{refl, ap, ap₂, ◌∙◌, arith, length-append}
 use Rattle.std.specs.Prelude.{◌≡◌, true, ℕ, suc, ◌+◌, ◌≤◌, List, [], ◌∷◌, ◌++◌, length, map, All}
 use Rattle.std.specs.List.{AllByRecursion, flat_map}
@@ -20,7 +20,7 @@ pub copies_say_copies : (l : Layout) (uuid : List ℕ) (sequence : ℕ) (groups 
 copies_say_copies l uuid sequence [] = refl
 copies_say_copies l uuid sequence (g ∷ gs) = ap₂ (λ cs ds. cs ++ ds) (copies_said true g) (copies_say_copies l uuid sequence gs)
 
--- they revoke nothing
+-- descriptors revoke nothing
 pub copies_revoke_nothing : (l : Layout) (uuid : List ℕ) (sequence : ℕ) (groups : List (List (ℕ × List ℕ))) →
     flat_map piece_revokes (map (own_copies l uuid sequence) groups) ≡ []
 copies_revoke_nothing l uuid sequence [] = refl
@@ -32,7 +32,7 @@ pub revokes_say_numbers : (l : Layout) (sequence : ℕ) (groups : List (List ℕ
 revokes_say_numbers l sequence [] = refl
 revokes_say_numbers l sequence (g ∷ gs) = ap (λ ns. g ++ ns) (revokes_say_numbers l sequence gs)
 
--- they have no copies
+-- revoke blocks have no copies
 pub revokes_copy_nothing : (l : Layout) (sequence : ℕ) (groups : List (List ℕ)) →
     flat_map piece_copies (map (own_revokes l sequence) groups) ≡ []
 revokes_copy_nothing l sequence [] = refl
@@ -74,7 +74,7 @@ revokes_sized l sequence P [] layout each = tt
 revokes_sized l sequence P (g ∷ gs) layout each =
     (length-revoke_block l sequence g layout each.0.most, revokes_sized l sequence P gs layout each.1)
 
--- so have the descriptors and the copies behind them
+-- all descriptors and their copies have the block size
 pub copies_sized : (l : Layout) (uuid : List ℕ) (sequence : ℕ) (groups : List (List (ℕ × List ℕ))) →
     IsLayout l → length uuid ≡ uuid_bytes → AllByRecursion (IsGroup (λ c. length c.1 ≡ l.block_size) (tags_of l)) groups →
     AllByRecursion (λ b. length b ≡ l.block_size) (flat_map piece_blocks (map (own_copies l uuid sequence) groups))

@@ -1,4 +1,4 @@
--- The revoke block that the writer makes of some numbers: it is one, and it has the block size.
+-- The writer's revoke block is one, and has the block size.
 use Rattle.std.proofs.Common.{refl, ap, ap₂, sym, ◌∙◌, arith, append_assoc, length-append}
 use Rattle.std.specs.Prelude.{◌≡◌, ℕ, ◌+◌, ◌*◌, ◌^◌, ◌<◌, ◌≤◌, List, [], ◌∷◌, ◌++◌, length, map, All}
 use Rattle.std.specs.List.{AllByRecursion, flat_map, range_with_len}
@@ -9,7 +9,7 @@ use Rattle.log_model.proofs.OwnTextGroups.{IsGroup}
 use Rattle.log_model.proofs.OwnTextHeader.{header_read, length-padded, measures, numbers_fit, spellable}
 use Rattle.log_model.proofs.OwnTextNumbers.{length-big_endian, number_behind_bytes}
 
--- numbers that are written one behind the other are read back, each at its place
+-- numbers written in a row are read back, each at its place
 numbers_read : (width base a : ℕ) (front rest numbers : List ℕ) →
     length front ≡ base + width * a → AllByRecursion (λ n. n < 256 ^ width) numbers →
     map (λ i. number_at (base + width * i) width (front ++ (flat_map (big_endian width) numbers ++ rest))) (range_with_len a (length numbers)) ≡ numbers
@@ -39,13 +39,13 @@ numbers_spellable : (l : Layout) (count : ℕ) (numbers : List ℕ) →
 numbers_spellable l count numbers layout spells below =
     recursion_from_All _ numbers (All-weaker (λ b. b < count) _ (λ n h. spellable l n layout (omega arith)) numbers below)
 
--- the bytes in use of a revoke block of these numbers, with others behind them
+-- the used bytes of a revoke block, then others
 abbrev revoke_bytes : Layout → ℕ → List ℕ → List ℕ → List ℕ
 revoke_bytes l sequence numbers rest =
     header revoke_type sequence ++ big_endian 4 (revoke_header_bytes + l.number_bytes * length numbers)
     ++ flat_map (big_endian l.number_bytes) numbers ++ rest
 
--- they are a revoke block, whatever stands behind them
+-- they are a revoke block, whatever stands after them
 revoke_bytes_are : (l : Layout) (count sequence : ℕ) (numbers rest : List ℕ) →
     IsLayout l → count ≤ every_number l → sequence < 2 ^ 32 → IsGroup (λ b. b < count) (numbers_of l) numbers →
     IsRevokeBlock l count sequence (revoke_bytes l sequence numbers rest) numbers
@@ -63,7 +63,7 @@ revoke_bytes_are l count sequence numbers rest layout spells below group =
       below = group.each;
     }
 
--- what the writer makes of a group of numbers is a revoke block of them
+-- the writer makes of a group of numbers a revoke block of them
 pub revoke_block_is : (l : Layout) (count sequence : ℕ) (numbers : List ℕ) →
     IsLayout l → count ≤ every_number l → sequence < 2 ^ 32 → IsGroup (λ b. b < count) (numbers_of l) numbers →
     IsRevokeBlock l count sequence (revoke_block l sequence numbers) numbers

@@ -1,4 +1,4 @@
--- The tags of a descriptor are read back from the bytes that the writer spells them by.
+-- The spelled tags of a descriptor are read back.
 use Rattle.std.proofs.Common.{refl, ap, ap₂, sym, subst, ◌∙◌, arith, append_assoc, drop_at, le_of_eq, length-append}
 use Rattle.std.specs.Prelude.{◌≡◌, ℕ, ◌+◌, ◌-◌, ◌*◌, ◌/◌, ◌^◌, ◌<◌, ◌≤◌, Bool, true, false, not, if◌then◌else◌, List, [], ◌∷◌, ◌++◌, length, drop}
 use Rattle.std.specs.List.{AllByRecursion, flat_map}
@@ -10,14 +10,14 @@ use Rattle.log_model.specs.OwnText.{is_empty, tags_from}
 use Rattle.log_model.proofs.OwnTextHeader.{measures, high_spellable}
 use Rattle.log_model.proofs.OwnTextNumbers.{length-big_endian, number_behind_bytes, number_in_big_endian_mod}
 
--- the UUID behind a tag is as long as readers take it to be
+-- a UUID is as long as readers expect
 length_uuid : (same : Bool) (uuid : List ℕ) →
     length uuid ≡ uuid_bytes →
     length (if same then [] else uuid) ≡ (if same then 0 else uuid_bytes)
 length_uuid true uuid size = refl
 length_uuid false uuid size = size
 
--- a spelled tag and the UUID behind it are as long as readers take them to be
+-- a spelled tag with its UUID is as long as readers expect
 pub length-tag_spelling : (l : Layout) (uuid : List ℕ) (t : Tag) →
     4 ≤ l.number_bytes → length uuid ≡ uuid_bytes →
     length (tag_spelling l uuid t) ≡ tag_bytes l + uuid_behind t
@@ -40,7 +40,7 @@ begins_long xs ys n long = omega (arith, length-append xs ys)
 abbrev first_bytes : Tag → List ℕ
 first_bytes t = big_endian 4 t.block ++ (0 ∷ 0 ∷ []) ++ big_endian 2 (flag_word t)
 
--- the high bytes of a spelled tag's number
+-- the high bytes of a spelled tag's number are read back
 high_read : (l : Layout) (uuid rest : List ℕ) (t : Tag) →
     IsLayout l → t.block < every_number l →
     number_at 8 (l.number_bytes - 4) (tag_spelling l uuid t ++ rest) ≡ t.block / 2 ^ 32
@@ -64,13 +64,13 @@ tag_read l uuid rest t layout size below =
       flags = number_behind_bytes (big_endian 4 t.block ++ (0 ∷ 0 ∷ [])) (drop 8 (spelling ++ rest)) 6 2 (flag_word t) refl (flag_word_small t);
     }
 
--- a last tag alone
+-- a last tag alone is read back
 last_tag : (l : Layout) (uuid rest : List ℕ) (t : Tag) →
     IsLayout l → length uuid ≡ uuid_bytes → t.block < every_number l → t.last ≡ true →
     BeginsWithTags l (tag_spelling l uuid t ++ rest) (t ∷ [])
 last_tag l uuid rest t layout size below last = (tag_read l uuid rest t layout size below, last)
 
--- a tag before others
+-- a tag before others is read back
 next_tag : (l : Layout) (uuid rest : List ℕ) (t u : Tag) (tags : List Tag) →
     IsLayout l → length uuid ≡ uuid_bytes → t.block < every_number l → t.last ≡ false → BeginsWithTags l rest (u ∷ tags) →
     BeginsWithTags l (tag_spelling l uuid t ++ rest) (t ∷ u ∷ tags)

@@ -1,4 +1,4 @@
--- The own text as a whole: it is a text, it says its entries, and it has as many blocks as a transaction needs.
+-- The own text is a text, says its entries, and has the needed blocks.
 use Rattle.std.proofs.Common.{ap, ap₂, sym, subst, ◌∙◌, arith, append-nil, length-append}
 use Rattle.std.specs.Prelude.{◌≡◌, ℕ, ◌^◌, ◌<◌, ◌≤◌, List, [], ◌∷◌, ◌++◌, length, map, All, ⊤}
 use Rattle.std.specs.List.{AllByRecursion, flat_map}
@@ -19,7 +19,7 @@ use Rattle.log_model.proofs.OwnTextHeader.{header_read, length-padded, measures,
 use Rattle.log_model.proofs.OwnTextPieces.{copies_revoke_nothing, copies_say_copies, copies_sized, length_copies, length_revokes, revokes_copy_nothing, revokes_say_numbers, revokes_sized}
 use Rattle.log_model.proofs.OwnTextRevokes.{revoke_block_is}
 
--- the pieces of the own text that are revoke blocks, and those that are descriptors with their copies
+-- the revoke blocks of the own text, and its descriptors with their copies
 abbrev revoke_pieces : Layout → ℕ → List (ℕ × Entry) → List Piece
 revoke_pieces l sequence entries = map (own_revokes l sequence) (groups (numbers_of l) (revoked entries))
 
@@ -31,7 +31,7 @@ commit_block_is : (l : Layout) (sequence : ℕ) → sequence < 2 ^ 32 → IsComm
 unfolding commit_block padded
 commit_block_is l sequence small = header_read commit_type sequence _ (omega arith) small
 
--- and has the block size
+-- the commit block has the block size
 length-commit_block : (l : Layout) (sequence : ℕ) → IsLayout l → length (commit_block l sequence) ≡ l.block_size
 unfolding commit_block
 length-commit_block l sequence layout = length-padded l.block_size (header commit_type sequence) (omega (arith, (measures l layout).room))
@@ -45,7 +45,7 @@ revoke_pieces_are l count sequence entries layout spells small below =
     let each = groups_are (λ b. b < count) (numbers_of l) (revoked entries) positive (revoked_below count entries below) in
     each-map _ (IsPiece l count sequence) (own_revokes l sequence) (λ g group. revoke_block_is l count sequence g layout spells small group) _ each
 
--- and so are its descriptors and their copies
+-- the descriptors of the own text and their copies are well formed
 copy_pieces_are : (l : Layout) (uuid : List ℕ) (count sequence : ℕ) (entries : List (ℕ × Entry)) →
     IsLayout l → length uuid ≡ uuid_bytes → count ≤ every_number l → sequence < 2 ^ 32 → All (λ p. p.0 < count) entries →
     AllByRecursion (IsPiece l count sequence) (copy_pieces l uuid sequence entries)
@@ -54,7 +54,7 @@ copy_pieces_are l uuid count sequence entries layout size spells small below =
     let each = groups_are (λ c. c.0 < count) (tags_of l) (copied entries) positive (copied_below count entries below) in
     each-map _ (IsPiece l count sequence) (own_copies l uuid sequence) (λ g group. copies_are l uuid count sequence g layout size spells small group) _ each
 
--- the own text is a text of its sequence, with every home block below the count
+-- the own text is a text of its sequence and the home area
 pub own_text_is : (l : Layout) (uuid : List ℕ) (count sequence : ℕ) (entries : List (ℕ × Entry)) →
     IsLayout l → length uuid ≡ uuid_bytes → count ≤ every_number l → sequence < 2 ^ 32 → All (λ p. p.0 < count) entries →
     IsText l count sequence (own_text l uuid sequence entries)
@@ -91,7 +91,7 @@ own_text_revokes l uuid sequence entries layout =
     ∙ append-nil (flat_map (λ g. g) (groups (numbers_of l) (revoked entries)))
     ∙ groups_joined (numbers_of l) (revoked entries) (numbers_of-positive l (measures l layout))
 
--- it has as many blocks as a transaction of so many copies and revokes needs
+-- it has as many blocks as `need` gives
 pub length_own_text : (l : Layout) (uuid : List ℕ) (sequence : ℕ) (entries : List (ℕ × Entry)) →
     IsLayout l →
     length (text_blocks (own_text l uuid sequence entries)) ≡ need l (length (copied entries)) (length (revoked entries))
@@ -117,7 +117,7 @@ length_own_text l uuid sequence entries layout =
 abbrev HasSize : Layout → List ℕ → Type 0
 HasSize l block = length block ≡ l.block_size
 
--- the revoke blocks of the own text have it
+-- the revoke blocks of the own text have the block size
 revoke_pieces_sized : (l : Layout) (sequence : ℕ) (entries : List (ℕ × Entry)) →
     IsLayout l → AllByRecursion (HasSize l) (flat_map piece_blocks (revoke_pieces l sequence entries))
 revoke_pieces_sized l sequence entries layout =
@@ -125,7 +125,7 @@ revoke_pieces_sized l sequence entries layout =
     let each = groups_are (λ b. ⊤) (numbers_of l) (revoked entries) positive (λ k d h. tt) in
     revokes_sized l sequence (λ b. ⊤) (groups (numbers_of l) (revoked entries)) layout each
 
--- and so have its descriptors and their copies, where each copy among the entries has
+-- its descriptors and copies have it, if each copy among the entries has
 copy_pieces_sized : (l : Layout) (uuid : List ℕ) (sequence : ℕ) (entries : List (ℕ × Entry)) →
     IsLayout l → length uuid ≡ uuid_bytes → All (λ c. HasSize l c.1) (copied entries) →
     AllByRecursion (HasSize l) (flat_map piece_blocks (copy_pieces l uuid sequence entries))
@@ -134,7 +134,7 @@ copy_pieces_sized l uuid sequence entries layout size sized =
     let each = groups_are (λ c. HasSize l c.1) (tags_of l) (copied entries) positive sized in
     copies_sized l uuid sequence (groups (tags_of l) (copied entries)) layout size each
 
--- each block of the own text has the block size, where each copy among the entries has
+-- each block of the own text has the block size, if each copy has
 pub own_text_sized : (l : Layout) (uuid : List ℕ) (sequence : ℕ) (entries : List (ℕ × Entry)) →
     IsLayout l → length uuid ≡ uuid_bytes → All (λ c. HasSize l c.1) (copied entries) →
     All (HasSize l) (text_blocks (own_text l uuid sequence entries))

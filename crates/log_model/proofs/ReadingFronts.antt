@@ -1,4 +1,4 @@
--- What has been read of the front of log blocks, and what may be read behind it.
+-- What was read at the front of log blocks, and what may follow.
 use Rattle.std.proofs.Common.{◌≡◌, ℕ, suc, ◌+◌, ◌<◌, ◌≤◌, List, [], ◌∷◌, ◌++◌, length, take, drop, arith, refl, sym, ◌∙◌, subst, ap, ap₂, append_assoc, append-nil, length-append}
 use Rattle.std.specs.List.{flat_map, AllByRecursion}
 use Rattle.std.proofs.lemmas.List.{append_cancel_left, drop-drop, length-take, take-append-drop}
@@ -17,7 +17,7 @@ use Rattle.log_model.proofs.ReadingPieces.{commits, damages, none_at_end, one_li
 use Rattle.log_model.proofs.ReadingTags.{TagsSoFar, one_descriptor}
 use Rattle.log_model.proofs.ReadingTexts.{most_texts, one_chain_of}
 
--- a front with a further one behind it is a front
+-- a front followed by another is a front
 front_more :
     (front next blocks : List (List ℕ)) (n m : ℕ)
     → StandsFirst front blocks n → StandsFirst next (drop n blocks) m → StandsFirst (front ++ next) blocks (n + m)
@@ -43,7 +43,7 @@ joined_push :
     {X : Type 0} (f : X → List (List ℕ)) (xs : List X) (x : X) → flat_map f (xs ++ x ∷ []) ≡ flat_map f xs ++ f x
 joined_push f xs x = flat_map-append f xs (x ∷ []) ∙ ap (λ ys. flat_map f xs ++ ys) (append-nil (f x))
 
--- before the first tag
+-- before the first tag no tags are read
 pub tags_none : (l : Layout) (count : ℕ) (bytes : List ℕ) → TagsSoFar l count bytes 0 []
 tags_none l count bytes = record {
   below = λ k tag low. absurd (omega (arith, low));
@@ -51,7 +51,7 @@ tags_none l count bytes = record {
   only = λ whole is. (whole, refl, omega arith, is);
 }
 
--- pieces and one more
+-- one more piece keeps pieces well formed
 pieces_push :
     (l : Layout) (count sequence : ℕ) (ps : List Piece) (p : Piece) → AllByRecursion (IsPiece l count sequence) ps
     → IsPiece l count sequence p → AllByRecursion (IsPiece l count sequence) (ps ++ p ∷ [])
@@ -59,7 +59,7 @@ pieces_push l count sequence [] p are is = (is, tt)
 pieces_push l count sequence (q ∷ ps) p are is = (are.0, pieces_push l count sequence ps p are.1 is)
 
 module _ (l : Layout) (count sequence : ℕ) where
-  -- a piece takes a block at least, and no more than all
+  -- a piece takes at least one block, and at most all
   pub piece_within :
       (blocks : List (List ℕ)) (p : Piece) (n : ℕ) → PieceBegins l count sequence blocks p n
       → (0 < n) × (n ≤ length blocks)
@@ -69,14 +69,14 @@ module _ (l : Layout) (count sequence : ℕ) where
       positive (Revokes block numbers) size = omega arith
       positive (Copies block tags copies) size = omega arith
 
-  -- so does a text
+  -- a text takes at least one block, and at most all
   pub text_within :
       (blocks : List (List ℕ)) (t : Text) (n : ℕ) → TextBegins l count sequence blocks t n → (0 < n) × (n ≤ length blocks)
   text_within blocks t n is =
       let size = is.front.size in let sizes = length-append (pieces_blocks t.pieces) (t.commit ∷ []) in
       (omega arith, front_within (text_blocks t) blocks n is.front)
 
-  -- a descriptor stands there, and behind it a copy for each of its tags
+  -- a descriptor with a copy for each of its tags is a piece
   pub copies_begin :
       (block : List ℕ) (tags : List Tag) (copies blocks behind : List (List ℕ)) → blocks ≡ block ∷ behind
       → IsDescriptor l count sequence block tags → copies ≡ take (length tags) behind → length tags ≤ length behind
@@ -97,7 +97,7 @@ module _ (l : Layout) (count sequence : ℕ) where
         };
       }
 
-  -- one more piece
+  -- one more piece stands after the others
   pub pieces_more :
       (blocks : List (List ℕ)) (ps : List Piece) (n : ℕ) → PiecesBegin l count sequence blocks ps n
       → (rest : List (List ℕ)) → rest ≡ drop n blocks → (p : Piece) (m : ℕ) → PieceBegins l count sequence rest p m
@@ -111,7 +111,7 @@ module _ (l : Layout) (count sequence : ℕ) where
   }
 
 module _ (l : Layout) (count sequence : ℕ) where
-  -- a descriptor stands there with fewer blocks behind it than it has tags
+  -- a descriptor with fewer blocks after it than tags is no piece
   pub copies_missing :
       (block : List ℕ) (tags : List Tag) (blocks behind : List (List ℕ)) → blocks ≡ block ∷ behind
       → ((numbers : List ℕ) → IsRevokeBlock l count sequence block numbers → ⊥)
@@ -136,7 +136,7 @@ module _ (l : Layout) (count sequence : ℕ) where
   module _
       (blocks : List (List ℕ)) (ps : List Piece) (n : ℕ) (so : PiecesBegin l count sequence blocks ps n)
       (rest : List (List ℕ)) (here : rest ≡ drop n blocks) where
-    -- the text of the pieces and the commit block behind them
+    -- the pieces and the commit block after them are a text
     pub text_begins :
         (commit : List ℕ) (behind : List (List ℕ)) → rest ≡ commit ∷ behind → IsCommitBlock sequence commit
         → TextBegins l count sequence blocks (record { pieces = ps; commit = commit }) (n + 1)
@@ -148,7 +148,7 @@ module _ (l : Layout) (count sequence : ℕ) where
     }
 
     module _ (some : 0 < l.number_bytes) (last : NoPieceBegins l count sequence (drop n blocks)) where
-      -- behind all the pieces there stands the commit block of the text, if there is a text
+      -- if there is a text, its commit block follows all the pieces
       commit_behind :
           (t : Text) (behind : List (List ℕ)) → IsText l count sequence t → blocks ≡ text_blocks t ++ behind
           → rest ≡ t.commit ∷ behind
@@ -158,13 +158,13 @@ module _ (l : Layout) (count sequence : ℕ) where
           is.pieces last (none_at_end l count sequence t.commit behind (commits is.commit))
           (sym so.front.split ∙ e ∙ append_assoc (pieces_blocks t.pieces) (t.commit ∷ []) behind)).1
 
-      -- no text stands where nothing stands behind its pieces
+      -- no text stands where nothing follows the pieces
       pub no_text_in_none : length rest ≡ 0 → NoTextBegins l count sequence blocks
       no_text_in_none empty = record {
         none = λ t behind is e. let sizes = ap length (commit_behind t behind is e) in omega arith;
       }
 
-      -- no text stands where another block than a commit block stands behind its pieces
+      -- no text stands where another block than a commit block follows the pieces
       pub no_text_without_commit :
           (block : List ℕ) (others : List (List ℕ)) → rest ≡ block ∷ others → (IsCommitBlock sequence block → ⊥)
           → NoTextBegins l count sequence blocks
@@ -187,7 +187,7 @@ module _ (l : Layout) (count sequence : ℕ) where
   module _
       (blocks : List (List ℕ)) (ts : List Text) (next n : ℕ) (so : TextsBegin l count sequence blocks ts next n)
       (rest : List (List ℕ)) (here : rest ≡ drop n blocks) where
-    -- one more text
+    -- one more text stands after the others
     pub texts_more :
         (t : Text) (m : ℕ) → TextBegins l count next rest t m
         → TextsBegin l count sequence blocks (ts ++ t ∷ []) (next + 1) (n + m)
@@ -200,11 +200,11 @@ module _ (l : Layout) (count sequence : ℕ) where
       due = let sizes = length-append ts (t ∷ []) in let due = so.due in omega arith;
     }
 
-    -- the texts, and then the rest
+    -- the blocks are those of the texts, and the rest
     texts_split : blocks ≡ texts_blocks ts ++ rest
     texts_split = so.front.split ∙ ap (λ xs. texts_blocks ts ++ xs) (sym here)
 
-    -- texts behind which no further one stands are the chain
+    -- texts followed by no further one are the chain
     pub texts_are_chain : 0 < l.number_bytes → NoTextBegins l count next rest → IsChain l count sequence blocks ts
     texts_are_chain some last = record {
       begins = record { rest = rest; split = texts_split; numbered = so.numbered };
@@ -216,7 +216,7 @@ module _ (l : Layout) (count sequence : ℕ) where
     module _
         (chain : IsChain l count sequence blocks ts) (ps : List Piece) (m : ℕ)
         (pieces : PiecesBegin l count next rest ps m) (end : List (List ℕ)) (at_end : end ≡ drop m rest) where
-      -- the pieces, and then the end
+      -- the blocks are those of the pieces, and the end
       pieces_split : rest ≡ pieces_blocks ps ++ end
       pieces_split = pieces.front.split ∙ ap (λ xs. pieces_blocks ps ++ xs) (sym at_end)
 

@@ -1,4 +1,4 @@
--- The pieces of a text are read in one way: no piece begins another, and none begins with a block that ends them.
+-- Pieces are read in one way: none begins another, or with a block that ends them.
 use Rattle.std.proofs.Common.{◌≡◌, ℕ, ◌<◌, List, [], ◌∷◌, ◌++◌, length, arith, refl, sym, ◌∙◌, subst, ap, append_assoc, inl, inr}
 use Rattle.std.specs.List.{AllByRecursion}
 use Rattle.log_model.specs.declared.log.Tag.{Tag}
@@ -19,7 +19,7 @@ pub one_type :
     → HasHeader type sequence block → HasHeader other next block → type ≡ other
 one_type p q = sym p.type_is ∙ q.type_is
 
--- two fronts of one length that the same list begins with are one, and so is what stands behind them
+-- equally long fronts of one list are equal, and so are the rests
 pub one_front :
     {X : Type 0} (xs ys vs ws : List X) → length xs ≡ length ys → xs ++ vs ≡ ys ++ ws → (xs ≡ ys) × (vs ≡ ws)
 one_front [] [] vs ws n e = (refl, e)
@@ -32,7 +32,7 @@ one_front (x ∷ xs) (y ∷ ys) vs ws n e =
     let same = both.0 in
     (cc, both.1)
 
--- The block ends the pieces of its number: it is a commit block, or a malformed block.
+-- a commit block, or a malformed block of the number, ends the pieces
 pub data Ends (l : Layout) (count sequence : ℕ) (block : List ℕ) : Type 0 where
   commits : IsCommitBlock sequence block → Ends l count sequence block
   damages : IsMalformed l count sequence block → Ends l count sequence block
@@ -100,14 +100,14 @@ module _ (l : Layout) (count sequence : ℕ) where
       one_type (subst (λ x. HasHeader revoke_type sequence x) same h.0) p.descriptor.has_header in
       omega arith
 
-  -- the block behind all pieces, seen as what no piece begins with
+  -- no piece begins with the block after all pieces
   pub none_at_end :
       (block : List ℕ) (rest : List (List ℕ)) → Ends l count sequence block
       → NoPieceBegins l count sequence (block ∷ rest)
   none_at_end block rest ends =
       record { none = λ p others is e. no_piece_at_end p others rest block is ends (sym e) }
 
-  -- pieces behind which no further one stands are one list, and the same blocks stand behind them
+  -- pieces followed by no further one are one list
   pub one_list_of_pieces :
       0 < l.number_bytes → (ps qs : List Piece) (xs ys : List (List ℕ))
       → AllByRecursion (IsPiece l count sequence) ps → AllByRecursion (IsPiece l count sequence) qs

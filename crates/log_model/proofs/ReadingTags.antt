@@ -1,4 +1,4 @@
--- The bytes of a descriptor block say what its tags are: two readings of them are one.
+-- The bytes of a descriptor block determine its tags.
 use Rattle.std.proofs.Common.{◌≡◌, ℕ, ◌+◌, ◌<◌, ◌≤◌, Bool, true, false, true≢false, if◌then◌else◌, List, [], ◌∷◌, ◌++◌, length, drop, arith, refl, sym, ◌∙◌, subst, ap, append_assoc}
 use Rattle.std.specs.List.{All}
 use Rattle.std.proofs.lemmas.List.{drop-drop, get_or_at, length-append, length-drop}
@@ -8,7 +8,7 @@ use Rattle.journal_model.specs.Layout.{Layout, tag_bytes}
 use Rattle.log_model.specs.Descriptor.{uuid_behind, BeginsWithTag, BeginsWithTags, IsDescriptor}
 use Rattle.log_model.specs.ReadingLog.{HasTags}
 
--- one number is the flags of one choice of the three only
+-- a flag word has one choice of the three flags
 one_flag_word :
     (escaped same_uuid last escaped' same_uuid' last' : Bool)
     → (if escaped then 1 else 0) + (if same_uuid then 2 else 0) + (if last then 8 else 0)
@@ -16,7 +16,7 @@ one_flag_word :
     → (escaped ≡ escaped') × (same_uuid ≡ same_uuid') × (last ≡ last')
 one_flag_word escaped same_uuid last escaped' same_uuid' last' e = grind arith
 
--- tags with the same fields are one
+-- tags with the same fields are equal
 same_tag :
     (t u : Tag) → t.block ≡ u.block → (t.escaped ≡ u.escaped) × (t.same_uuid ≡ u.same_uuid) × (t.last ≡ u.last) → t ≡ u
 same_tag t u block flags =
@@ -25,13 +25,13 @@ same_tag t u block flags =
     ap (λ n. tag n t.escaped t.same_uuid t.last) block ∙ ap (λ e. tag u.block e t.same_uuid t.last) flags.0
     ∙ ap (λ s. tag u.block u.escaped s t.last) flags.1 ∙ ap (λ l. tag u.block u.escaped u.same_uuid l) flags.2
 
--- the bytes begin with one tag only
+-- bytes begin with at most one tag
 pub one_tag : {l : Layout} {bytes : List ℕ} {t u : Tag} → BeginsWithTag l bytes t → BeginsWithTag l bytes u → t ≡ u
 one_tag {l} {bytes} {t} {u} p q =
     same_tag t u (p.block ∙ sym q.block)
     (one_flag_word t.escaped t.same_uuid t.last u.escaped u.same_uuid u.last (sym p.flags ∙ q.flags))
 
--- the bytes begin with one list of tags only: its end is where the last flag stands
+-- bytes begin with at most one list of tags
 pub one_list_of_tags :
     (l : Layout) (tags others : List Tag) (bytes : List ℕ)
     → BeginsWithTags l bytes tags → BeginsWithTags l bytes others → tags ≡ others
@@ -48,14 +48,14 @@ one_list_of_tags l (t ∷ s ∷ tags) (u ∷ v ∷ others) bytes p q =
     let rest = one_list_of_tags l (s ∷ tags) (v ∷ others) _ behind q.3 in
     cc
 
--- a block is a descriptor with one list of tags only
+-- a descriptor has one list of tags
 pub one_descriptor :
     {l : Layout} {count sequence : ℕ} {block : List ℕ} {tags others : List Tag}
     → IsDescriptor l count sequence block tags → IsDescriptor l count sequence block others → tags ≡ others
 one_descriptor {l} {tags = tags} {others = others} p q = one_list_of_tags l tags others _ p.spelled q.spelled
 
 module _ (l : Layout) where
-  -- a tag that is not the last one stands in front of those behind it
+  -- a tag that is not the last one precedes the others
   pub tag_before :
       (bytes : List ℕ) (t : Tag) (rest : List Tag) → BeginsWithTag l bytes t → t.last ≡ false
       → tag_bytes l + uuid_behind t ≤ length bytes
@@ -63,7 +63,7 @@ module _ (l : Layout) where
   tag_before bytes t [] tag more room behind = absurd behind
   tag_before bytes t (u ∷ rest) tag more room behind = (tag, more, room, behind)
 
-  -- behind a tag that is not the last one stand the others
+  -- the others follow a tag that is not the last one
   pub tag_after :
       (bytes : List ℕ) (t : Tag) (whole : List Tag) → BeginsWithTag l bytes t → t.last ≡ false
       → BeginsWithTags l bytes whole
@@ -81,14 +81,14 @@ module _ (l : Layout) where
         subst (λ x. BeginsWithTags l (drop (tag_bytes l + uuid_behind x) bytes) (v ∷ rest)) e whole.3,
       )
 
-  -- the bytes begin with no tag, so with no list of tags
+  -- bytes that begin with no tag begin with no list of tags
   pub no_tag_no_list :
       (bytes : List ℕ) (whole : List Tag) → ((t : Tag) → BeginsWithTag l bytes t → ⊥) → BeginsWithTags l bytes whole → ⊥
   no_tag_no_list bytes [] none whole = whole
   no_tag_no_list bytes (t ∷ []) none whole = none t whole.0
   no_tag_no_list bytes (t ∷ u ∷ rest) none whole = none t whole.0
 
-  -- no bytes begin with no tag, since a tag has some
+  -- no bytes begin with no tag
   pub no_tags_in_none : (whole : List Tag) → BeginsWithTags l [] whole → ⊥
   no_tags_in_none whole is =
       no_tag_no_list [] whole (λ t tag. let room = tag.room in absurd (omega arith)) is
@@ -101,8 +101,7 @@ module _ (l : Layout) where
   first_of_list bytes t (u ∷ []) tag whole = ([], ap (λ x. x ∷ []) (one_tag whole.0 tag))
   first_of_list bytes t (u ∷ v ∷ rest) tag whole = (v ∷ rest, ap (λ x. x ∷ v ∷ rest) (one_tag whole.0 tag))
 
--- These tags, none of them the last one, take the bytes up to a place, and what tags the bytes begin with goes on
--- with those behind that place.
+-- These tags, none of them last, take the bytes up to a place, and any tags of the bytes go on after it.
 pub record TagsSoFar (l : Layout) (count : ℕ) (bytes : List ℕ) (place : ℕ) (tags : List Tag) : Type 0 where
   pub below : All (λ t. t.block < count) tags
   pub on : (rest : List Tag) → place ≤ length bytes → BeginsWithTags l (drop place bytes) rest
@@ -114,7 +113,7 @@ module _ (l : Layout) (count : ℕ) (bytes : List ℕ) where
   module _
       (place : ℕ) (tags : List Tag) (far : TagsSoFar l count bytes place tags)
       (ahead : List ℕ) (here : ahead ≡ drop place bytes) where
-    -- the tags of all the bytes are those so far, and then tags of the bytes ahead
+    -- all tags of the bytes are those so far, then those ahead
     tags_ahead :
         (whole : List Tag) → BeginsWithTags l bytes whole
         → (rest : List Tag) × (whole ≡ tags ++ rest) × (place ≤ length bytes) × BeginsWithTags l ahead rest
@@ -127,7 +126,7 @@ module _ (l : Layout) (count : ℕ) (bytes : List ℕ) where
         (rest : List Tag) → place ≤ length bytes → BeginsWithTags l ahead rest → BeginsWithTags l bytes (tags ++ rest)
     tags_on rest fits is = far.on rest fits (subst (λ xs. BeginsWithTags l xs rest) here is)
 
-    -- one more tag that is not the last one
+    -- one more tag that is not last
     pub tags_more :
         (t : Tag) (next : ℕ) → place ≤ length bytes → BeginsWithTag l ahead t → t.last ≡ false → t.block < count
         → next ≡ place + (tag_bytes l + uuid_behind t) → TagsSoFar l count bytes next (tags ++ t ∷ [])
@@ -149,14 +148,14 @@ module _ (l : Layout) (count : ℕ) (bytes : List ℕ) where
             subst (λ xs. BeginsWithTags l xs one.0) (sym (behind_tag next e)) one.3,
           );
     } where
-      -- the bytes behind the tag
+      -- the bytes after the tag
       behind_tag : (at : ℕ) → at ≡ place + (tag_bytes l + uuid_behind t)
           → drop at bytes ≡ drop (tag_bytes l + uuid_behind t) ahead
       behind_tag at h =
           ap (λ n. drop n bytes) h ∙ sym (drop-drop (tag_bytes l + uuid_behind t) place bytes)
           ∙ ap (drop (tag_bytes l + uuid_behind t)) (sym here)
 
-    -- the last tag
+    -- the last tag completes those so far
     pub tags_last :
         (t : Tag) → place ≤ length bytes → BeginsWithTag l ahead t → t.last ≡ true → t.block < count
         → HasTags l count bytes (tags ++ t ∷ [])
@@ -165,13 +164,13 @@ module _ (l : Layout) (count : ℕ) (bytes : List ℕ) where
       below = All-push (λ u. u.block < count) tags t far.below low;
     }
 
-    -- no further tag stands ahead, so there are no tags
+    -- if no tag stands ahead, the bytes have no tags
     pub tags_stop :
         ((t : Tag) → BeginsWithTag l ahead t → ⊥) → (whole : List Tag) → HasTags l count bytes whole → ⊥
     tags_stop none whole is =
         let after = tags_ahead whole is.spelled in no_tag_no_list l ahead after.0 none after.3
 
-    -- the next tag names no home block, so there are no tags
+    -- if the next tag names no home block, the bytes have no tags
     pub tags_above :
         (t : Tag) → BeginsWithTag l ahead t → count ≤ t.block → (whole : List Tag) → HasTags l count bytes whole → ⊥
     tags_above t tag high whole is =

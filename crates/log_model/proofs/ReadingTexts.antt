@@ -10,13 +10,13 @@ use Rattle.log_model.specs.Chain.{AreTexts, texts_blocks, IsChain, IsMalformed, 
 use Rattle.log_model.specs.ReadingLog.{NoTextBegins}
 use Rattle.log_model.proofs.ReadingPieces.{commits, damages, none_at_end, one_list_of_pieces}
 
--- texts with the same pieces and the same commit block are one
+-- texts with the same pieces and commit block are equal
 same_text : (t u : Text) → t.pieces ≡ u.pieces → t.commit ≡ u.commit → t ≡ u
 same_text t u pieces commit =
     let text : List Piece → List ℕ → Text = λ ps c. record { pieces = ps; commit = c } in
     ap (λ ps. text ps t.commit) pieces ∙ ap (λ c. text u.pieces c) commit
 
--- the blocks of the first text, and then those of the others
+-- the blocks of the first text, then those of the others
 first_text :
     (t : Text) (ts : List Text) (rest : List (List ℕ))
     → texts_blocks (t ∷ ts) ++ rest ≡ text_blocks t ++ (texts_blocks ts ++ rest)
@@ -37,7 +37,7 @@ module _ (l : Layout) (count : ℕ) where
       let behind = both.1 in
       (same_text t u both.0 cc, cc)
 
-  -- of texts that the same blocks begin with, those behind which no further one stands are the most
+  -- texts followed by no further one are the most at the front of the same blocks
   pub most_texts :
       0 < l.number_bytes → (sequence next : ℕ) (ts us : List Text) (xs ys : List (List ℕ))
       → AreTexts l count sequence ts → AreTexts l count sequence us → next ≡ sequence + length ts
@@ -55,7 +55,7 @@ module _ (l : Layout) (count : ℕ) where
       let rest = most_texts some (suc sequence) next ts us xs ys are.1 others.1 due last first.1 in
       omega arith
 
-  -- as many texts that the same blocks begin with are one list, and the same blocks stand behind them
+  -- equally many texts at the front of the same blocks are one list
   pub one_list_of_texts :
       0 < l.number_bytes → (sequence : ℕ) (ts us : List Text) (xs ys : List (List ℕ))
       → AreTexts l count sequence ts → AreTexts l count sequence us → length ts ≡ length us
@@ -72,7 +72,7 @@ module _ (l : Layout) (count : ℕ) where
       let head = first.0 in let tail = rest.0 in
       (cc, rest.1)
 
-  -- there is one chain
+  -- blocks have one chain
   pub one_chain_of :
       0 < l.number_bytes → (sequence : ℕ) (blocks : List (List ℕ)) (ts us : List Text)
       → IsChain l count sequence blocks ts → IsChain l count sequence blocks us → ts ≡ us
@@ -82,7 +82,7 @@ module _ (l : Layout) (count : ℕ) where
       (one_list_of_texts some sequence ts us p.begins.rest q.begins.rest p.begins.numbered q.begins.numbered
       (omega arith) (sym p.begins.split ∙ q.begins.split)).0
 
-  -- pieces of one number that the same blocks begin with are one list, where a malformed block ends each
+  -- pieces at the front of the same blocks, ended by a malformed block, are one list
   same_pieces :
       0 < l.number_bytes → (next : ℕ) (front rest others : List (List ℕ)) (ps qs : List Piece) (b c : List ℕ)
       → AllByRecursion (IsPiece l count next) ps → AllByRecursion (IsPiece l count next) qs
@@ -93,7 +93,7 @@ module _ (l : Layout) (count : ℕ) where
       (none_at_end l count next b rest (damages bad)) (none_at_end l count next c others (damages worse))
       (append_cancel_left front _ _ (simp append_assoc at e))).0
 
-  -- there is one damaged block at most
+  -- blocks have at most one damaged block
   pub one_damage_of :
       0 < l.number_bytes → (sequence : ℕ) (blocks : List (List ℕ)) (j k : ℕ)
       → IsDamaged l count sequence blocks j → IsDamaged l count sequence blocks k → j ≡ k

@@ -1,4 +1,4 @@
--- The text of a log, as a dump prints it: one line for each block of the chain. The form is this project's own.
+-- How a dump prints a log: one line for each block of the chain. The form is this project's own.
 use Rattle.std.specs.Prelude.{◌≡◌, ℕ, suc, ◌+◌, ◌==◌, if◌then◌else◌, Some, List, [], ◌∷◌, ◌++◌, length, map, codes}
 use Rattle.std.specs.List.{flat_map, enumerate_from, join_with_byte}
 use Rattle.std.specs.Fmt.{decimal}
@@ -15,7 +15,6 @@ use Rattle.journal_model.specs.Layout.{every_number}
 use Rattle.log_model.specs.Chain.{place_from}
 use Rattle.log_model.specs.Opening.{layout_of, ring_of, super_of, lap_place, IsClean, HasChain, IsDamagedImage}
 
--- the bytes of a blank, a comma and a newline
 abbrev pub blank : ℕ
 blank = 32
 
@@ -25,19 +24,16 @@ comma = 44
 abbrev pub newline : ℕ
 newline = 10
 
--- what a line says of a copy, after its place: the tag names the home block
 abbrev pub copy_caption : ℕ → Tag → List ℕ
 copy_caption sequence t =
     codes "copy " ++ decimal sequence ++ codes " block=" ++ decimal t.block ++ (if t.escaped then codes " escaped" else [])
 
--- what the lines of a piece's blocks say, after their places
 abbrev pub piece_captions : ℕ → Piece → List (List ℕ)
 piece_captions sequence (Revokes block numbers) =
     (codes "revoke " ++ decimal sequence ++ codes " blocks=" ++ join_with_byte comma (map decimal numbers)) ∷ []
 piece_captions sequence (Copies block tags copies) =
     (codes "descriptor " ++ decimal sequence ++ codes " tags=" ++ decimal (length tags)) ∷ map (copy_caption sequence) tags
 
--- those of a text's blocks, and of the blocks of texts in a row
 abbrev pub text_captions : ℕ → Text → List (List ℕ)
 text_captions sequence t = flat_map (piece_captions sequence) t.pieces ++ (codes "commit " ++ decimal sequence) ∷ []
 
@@ -45,28 +41,25 @@ abbrev pub texts_captions : ℕ → List Text → List (List ℕ)
 texts_captions sequence [] = []
 texts_captions sequence (t ∷ ts) = text_captions sequence t ++ texts_captions (suc sequence) ts
 
--- what it says of the width of block numbers
 abbrev pub width_word : Super → List ℕ
 width_word s = if s.s_feature_incompat == wide_features then codes " wide" else []
 
--- the first line
 abbrev pub super_line : Super → List ℕ
 super_line s =
     codes "super blocksize=" ++ decimal s.s_blocksize ++ codes " maxlen=" ++ decimal s.s_maxlen
     ++ codes " first=" ++ decimal s.s_first ++ codes " sequence=" ++ decimal s.s_sequence
     ++ codes " start=" ++ decimal s.s_start ++ width_word s
 
--- the lines of the chain's blocks, each with its place before it
+-- each after its place
 abbrev pub block_lines : Super → List Text → List (List ℕ)
 block_lines s texts =
     map (λ c. decimal (place_from (ring_of s) s.s_start c.0) ++ blank ∷ c.1) (enumerate_from 0 (texts_captions s.s_sequence texts))
 
--- the last line
 abbrev pub end_line : Super → List Text → List ℕ
 end_line s texts =
     codes "end sequence=" ++ decimal (s.s_sequence + length texts) ++ codes " transactions=" ++ decimal (length texts)
 
--- all lines of a log with this superblock and, where it is not clean, this chain
+-- a clean log has no chain
 abbrev pub lines_of : Super → List Text → List (List ℕ)
 lines_of s texts =
     super_line s
@@ -74,22 +67,19 @@ lines_of s texts =
     then (codes "empty sequence=" ++ decimal s.s_sequence) ∷ []
     else block_lines s texts ++ end_line s texts ∷ [])
 
--- the text: the lines, each with a newline behind it
 unfoldable pub dump_text : Super → List Text → List ℕ
 dump_text s texts = flat_map (λ line. line ++ newline ∷ []) (lines_of s texts)
 
--- the shape that a dump tests a log with, in so many blocks of this size: the home area is not known, so each number is
--- taken that the log's layout can spell
+-- home is not known, so each number that the layout can spell is accepted
 abbrev pub dump_shape : Super → ℕ → ℕ → Shape
 dump_shape s size blocks = record { block_size = size; log_blocks = blocks; home_blocks = every_number (layout_of s) }
 
--- the text is the dump of an accepted log, which a malformed block of the transaction that is due next leaves without one
+-- an accepted log without damage has a dump
 pub data IsDump (shape : Shape) (image : Image) : List ℕ → Type 0 where
   OfClean : IsClean shape image → IsDump shape image (dump_text (super_of image) [])
   OfChain : (texts : List Text) → HasChain shape image texts → IsDump shape image (dump_text (super_of image) texts)
 
--- why a dump refuses a log: the superblock's tests, then the first malformed block; it makes no test for blocks that
--- are ahead, and none for the numbers that are left
+-- the superblock's tests, then the first malformed block; neither blocks ahead nor the numbers left are tested
 pub data IsDumpRefused (shape : Shape) (image : Image) : JournalError → Type 0 where
   BySuperblock : (e : JournalError) → super_refusal shape (image Log 0) ≡ Some e → IsDumpRefused shape image e
   ByDamage : (k : ℕ) → IsDamagedImage shape image k → IsDumpRefused shape image (Damage (lap_place image k))

@@ -1,5 +1,5 @@
--- What an opening finds in an image, and what it means that an image opens to n. Source: fs/jbd2/recovery.c by
--- behaviour; the refusals are this project's own.
+-- What an opening finds in an image, and when an image opens to n.
+-- Source: fs/jbd2/recovery.c by behaviour; the refusals are this project's own.
 use Rattle.std.specs.Prelude.{◌≡◌, ◌≢◌, ℕ, ◌+◌, ◌-◌, ◌==◌, ◌<◌, ◌≤◌, nat_lt, if◌then◌else◌, List, length, count_by, Some, None}
 use Rattle.log_model.specs.declared.log.Text.{Text}
 use Rattle.journal_model.specs.declared.number.Area.TheVariants.{Log, Home}
@@ -12,7 +12,6 @@ use Rattle.log_model.specs.Chain.{Ring, lap, place_from, IsChain, IsDamaged, IsA
 use Rattle.log_model.specs.Replay.{IsReplayed}
 use Rattle.journal_model.specs.Transaction.{History, Volume, Recovered}
 
--- the superblock of an image, and the ring and the layout that it names
 abbrev pub super_of : Image → Super
 super_of image = super_in (image Log 0)
 
@@ -22,65 +21,58 @@ ring_of s = record { first = s.s_first; blocks = s.s_maxlen - s.s_first }
 abbrev pub layout_of : Super → Layout
 layout_of s = record { block_size = s.s_blocksize; number_bytes = 4 + (if s.s_feature_incompat == wide_features then 4 else 0) }
 
--- one lap of the log, from s_start on
 abbrev pub log_lap : Image → List (List ℕ)
 log_lap image = lap (ring_of (super_of image)) image (super_of image).s_start
 
--- the place in the log of its k-th block
 abbrev pub lap_place : Image → ℕ → ℕ
 lap_place image k = place_from (ring_of (super_of image)) (super_of image).s_start k
 
--- an accepted image that is not clean
+-- accepted, and not clean
 pub record IsStarted (shape : Shape) (image : Image) : Type 0 where
   pub accepted : super_refusal shape (image Log 0) ≡ None
   pub started : (super_of image).s_start ≢ 0
 
--- block k of the lap is malformed, behind the chain and well-formed pieces
 pub record IsDamagedImage (shape : Shape) (image : Image) (k : ℕ) : Type 0 where
   pub started : IsStarted shape image
   pub damaged : IsDamaged (layout_of (super_of image)) shape.home_blocks (super_of image).s_sequence (log_lap image) k
 
--- the chain of an accepted image that is not clean, with no malformed block behind it
+-- the chain of an accepted image that is neither clean nor damaged
 pub record HasChain (shape : Shape) (image : Image) (texts : List Text) : Type 0 where
   pub started : IsStarted shape image
   pub chain : IsChain (layout_of (super_of image)) shape.home_blocks (super_of image).s_sequence (log_lap image) texts
   pub undamaged : (k : ℕ) → IsDamagedImage shape image k → ⊥
 
--- an accepted image that is clean
 pub record IsClean (shape : Shape) (image : Image) : Type 0 where
   pub accepted : super_refusal shape (image Log 0) ≡ None
   pub clean : (super_of image).s_start ≡ 0
 
--- the greatest sequence that a ring block of an accepted, undamaged image may carry: the next transaction has the
--- number behind it
+-- the greatest sequence that a ring block may carry; the next transaction has the number after it
 pub data HasLimit (shape : Shape) (image : Image) : ℕ → Type 0 where
   OfClean : IsClean shape image → HasLimit shape image (super_of image).s_sequence
   OfChain : (texts : List Text) → HasChain shape image texts → HasLimit shape image ((super_of image).s_sequence + length texts)
 
--- no ring block is ahead of the limit
 abbrev pub NothingAhead : Image → ℕ → Type 0
 NothingAhead image limit = (place : ℕ) → IsAhead (ring_of (super_of image)) image limit place → ⊥
 
--- An opening of the image makes this of home: none of the refusals of content stands in the image; a clean log
--- leaves home as it is, and a chain is replayed over it.
+-- What an opening makes of home, if no refusal of content applies: a clean log leaves home as it is, else the chain
+-- is replayed.
 pub data OpensAs (shape : Shape) (image : Image) (got : Volume) : Type 0 where
   Clean : IsClean shape image → NothingAhead image (super_of image).s_sequence →
       ((b : ℕ) → b < shape.home_blocks → got b ≡ image Home b) → OpensAs shape image got
   Replayed : (texts : List Text) → HasChain shape image texts → NothingAhead image ((super_of image).s_sequence + length texts) →
       IsReplayed shape.home_blocks texts (image Home) got → OpensAs shape image got
 
--- the image opens to n: what an opening makes of it is what the first n transactions make of its home
+-- an opening makes of home what the first n transactions make of it
 pub record Opens (shape : Shape) (ts : History) (n : ℕ) (image : Image) : Type 0 where
   pub got : Volume
   pub opens : OpensAs shape image got
   pub recovered : Recovered shape.home_blocks ts n (image Home) got
 
--- the greatest number of a transaction
 abbrev pub greatest_number : ℕ
 greatest_number = 0xfffffff0
 
--- Why an opening refuses an image, whatever the device does: the superblock's tests; then the first malformed
--- block behind the chain; then the lowest ring block that is ahead; then that no number is left.
+-- Why an opening refuses an image, whatever the device does: the superblock's tests, then damage, then the lowest
+-- ring block ahead, then no number left.
 pub data IsRefused (shape : Shape) (image : Image) : JournalError → Type 0 where
   BySuperblock : (e : JournalError) → super_refusal shape (image Log 0) ≡ Some e → IsRefused shape image e
   ByDamage : (k : ℕ) → IsDamagedImage shape image k → IsRefused shape image (Damage (lap_place image k))
@@ -89,12 +81,11 @@ pub data IsRefused (shape : Shape) (image : Image) : JournalError → Type 0 whe
       IsRefused shape image (Ahead place)
   ByNumber : (limit : ℕ) → HasLimit shape image limit → NothingAhead image limit → greatest_number ≤ limit → IsRefused shape image SequenceEnd
 
--- how many transactions have a number below this one
 abbrev pub numbered_below : ℕ → History → ℕ
 numbered_below end ts = count_by (λ t. nat_lt t.tid end) ts
 
--- The n that an image opens to, where a stop of the running journal left it: the count of the transactions that its
--- log has, or that went home before. (A stopped opening may leave a clean log with a greater number.)
+-- The n to which an image opens if a crash of the running journal left it: the transactions in its log or already
+-- home. (A crashed opening may leave a clean log with a greater number.)
 pub record IsCountOf (shape : Shape) (image : Image) (ts : History) (n : ℕ) : Type 0 where
   pub limit : ℕ
   pub has : HasLimit shape image limit

@@ -1,5 +1,6 @@
--- The one text that this journal's writer makes of a transaction. Source: this project's own order within what
--- journal.rst allows: revoke blocks, then descriptors with their copies, in the order of the entries.
+-- Which text this journal's writer makes of a transaction.
+-- Source: this project's own order within what journal.rst allows: revoke blocks, then descriptors with their
+-- copies, in the order of the entries.
 use Rattle.std.specs.Prelude.{ℕ, ◌+◌, ◌-◌, ◌*◌, ◌/◌, Bool, true, false, not, List, [], ◌∷◌, ◌++◌, length, take, drop, map}
 use Rattle.std.specs.List.{range_with_len}
 use Rattle.journal_model.specs.declared.entry.Entry.{Entry}
@@ -13,11 +14,10 @@ use Rattle.log_model.specs.Descriptor.{descriptor_block}
 use Rattle.log_model.specs.RevokeBlock.{revoke_block}
 use Rattle.log_model.specs.Escape.{escaped}
 
--- a / b, rounded up
 abbrev pub ceil_div : ℕ → ℕ → ℕ
 ceil_div a b = (a + b - 1) / b
 
--- xs in groups of n, the last of which has what is left
+-- xs in groups of n; the last has the rest
 unfoldable pub groups : {X : Type 0} → ℕ → List X → List (List X)
 groups n xs = map (λ k. take n (drop (n * k) xs)) (range_with_len 0 (ceil_div (length xs) n))
 
@@ -25,7 +25,7 @@ abbrev pub is_empty : {X : Type 0} → List X → Bool
 is_empty [] = true
 is_empty (x ∷ xs) = false
 
--- the tags of a descriptor: the first has the journal's UUID behind it, the last has the last flag
+-- the tags of a descriptor: the first has the journal's UUID, the last the last flag
 abbrev pub tags_from : Bool → List (ℕ × List ℕ) → List Tag
 tags_from first [] = []
 tags_from first (c ∷ cs) =
@@ -38,11 +38,9 @@ abbrev pub own_copies : Layout → List ℕ → ℕ → List (ℕ × List ℕ) �
 own_copies l uuid sequence copies =
     Copies (descriptor_block l uuid sequence (tags_from true copies)) (tags_from true copies) (map (λ c. escaped c.1) copies)
 
--- the commit block as it is written: a header, and zeros
 unfoldable pub commit_block : Layout → ℕ → List ℕ
 commit_block l sequence = padded l.block_size (header commit_type sequence)
 
--- the own text of a transaction
 unfoldable pub own_text : Layout → List ℕ → ℕ → List (ℕ × Entry) → Text
 own_text l uuid sequence entries =
     record {

@@ -1,16 +1,14 @@
--- Revoke blocks: which bytes are one, and how the writer spells one.
+-- Which bytes are a revoke block, and how the writer spells one.
 -- Source: journal.rst, "Revocation Block".
 use Rattle.std.specs.Prelude.{◌≡◌, ℕ, ◌+◌, ◌*◌, ◌<◌, ◌≤◌, List, ◌++◌, length, map, All}
 use Rattle.std.specs.List.{flat_map, range_with_len}
 use Rattle.journal_model.specs.Layout.{Layout, big_endian, number_at, HasHeader, header, revoke_header_bytes, revoke_type, padded}
 
--- the first k numbers of a revoke block
 abbrev pub numbers_in : Layout → List ℕ → ℕ → List ℕ
 numbers_in l block k =
     map (λ i. number_at (revoke_header_bytes + l.number_bytes * i) l.number_bytes block) (range_with_len 0 k)
 
--- The block is a well-formed revoke block of this sequence with these numbers, each below the count: the field
--- behind the header says how many bytes are used, the first 16 among them.
+-- The field after the header counts the used bytes, with the first 16.
 pub record IsRevokeBlock (l : Layout) (count sequence : ℕ) (block : List ℕ) (numbers : List ℕ) : Type 0 where
   pub has_header : HasHeader revoke_type sequence block
   pub used : number_at 12 4 block ≡ revoke_header_bytes + l.number_bytes * length numbers
@@ -18,7 +16,6 @@ pub record IsRevokeBlock (l : Layout) (count sequence : ℕ) (block : List ℕ) 
   pub spelled : numbers ≡ numbers_in l block (length numbers)
   pub below : All (λ b. b < count) numbers
 
--- the revoke block that the writer makes of these numbers
 unfoldable pub revoke_block : Layout → ℕ → List ℕ → List ℕ
 revoke_block l sequence numbers =
     padded l.block_size

@@ -1,4 +1,4 @@
--- The superblock: its fields, the tests that an opening makes of it, and how it is written.
+-- The superblock: its fields, the tests of an opening, and how it is written.
 -- Source: journal.rst, "Super Block"; the limits of this profile are its own.
 use Rattle.std.specs.Prelude.{ℕ, ◌-◌, ◌==◌, ◌&&◌, ◌||◌, nat_lt, nat_le, Bool, if◌then◌else◌, List, [], ◌∷◌, ◌++◌, take, drop, Option, Some, None}
 use Rattle.journal_model.specs.declared.refusal.JournalError.{JournalError}
@@ -6,13 +6,13 @@ use Rattle.journal_model.specs.declared.refusal.JournalError.TheVariants.{BadMag
 use Rattle.journal_model.specs.Disk.{Shape}
 use Rattle.journal_model.specs.Layout.{big_endian, number_at, begins_with_magic, type_in, header, super_type, padded}
 
--- the fields of a superblock, under the names that jbd2 gives them
+-- the fields of a superblock, by their names in jbd2
 pub record Super : Type 0 where
   pub s_blocksize : ℕ  -- bytes in a block
-  pub s_maxlen : ℕ  -- blocks in the log, the superblock among them
+  pub s_maxlen : ℕ  -- blocks in the log, with the superblock
   pub s_first : ℕ  -- the first block of the ring
-  pub s_sequence : ℕ  -- the number of the first transaction in the log; in a clean log, the number before the next one
-  pub s_start : ℕ  -- the block where it begins, or 0 where the log is clean
+  pub s_sequence : ℕ  -- the log's first transaction; in a clean log, the number before the next one
+  pub s_start : ℕ  -- the block where it begins; 0 in a clean log
   pub s_errno : ℕ
   pub s_feature_compat : ℕ
   pub s_feature_incompat : ℕ
@@ -20,7 +20,6 @@ pub record Super : Type 0 where
   pub s_uuid : List ℕ  -- 16 bytes
   pub s_nr_users : ℕ
 
--- what a block says as a superblock
 abbrev pub super_in : List ℕ → Super
 super_in block =
     record {
@@ -40,7 +39,6 @@ super_in block =
 abbrev pub is_block_size : ℕ → Bool
 is_block_size n = (n == 1024) || (n == 2048) || (n == 4096)
 
--- the fewest blocks of a ring, the fewest and the most of a log
 abbrev pub least_ring : ℕ
 least_ring = 16
 
@@ -50,18 +48,17 @@ least_length = 17
 abbrev pub greatest_length : ℕ
 greatest_length = 1048576
 
--- the incompatible features that are taken: revoke blocks, and with them 64-bit block numbers
+-- revoke blocks, alone or with 64-bit block numbers
 abbrev pub revoke_feature : ℕ
 revoke_feature = 1
 
 abbrev pub wide_features : ℕ
 wide_features = 3
 
--- those of a log whose block numbers have 64 bits, or 32
 abbrev pub features_of : Bool → ℕ
 features_of is_wide = if is_wide then wide_features else revoke_feature
 
--- the tests of a superblock on a device of this shape, each with the refusal where it fails, in their order
+-- in order, each with its refusal
 abbrev pub super_tests : Shape → List ℕ → List (Bool × JournalError)
 super_tests shape block =
     let s = super_in block in
@@ -75,16 +72,14 @@ super_tests shape block =
     ∷ (s.s_errno == 0, ErrnoSet)
     ∷ []
 
--- the refusal of the first test that fails
 abbrev pub first_failed : List (Bool × JournalError) → Option JournalError
 first_failed [] = None
 first_failed (test ∷ tests) = if test.0 then first_failed tests else Some test.1
 
--- why a superblock is refused: a log area without a block comes before all tests, since there is nothing to read
+-- a log area without a block is refused first, since nothing can be read
 abbrev pub super_refusal : Shape → List ℕ → Option JournalError
 super_refusal shape block = if shape.log_blocks == 0 then Some BadLength else first_failed (super_tests shape block)
 
--- the superblock of a log that was just formatted
 unfoldable pub formatted_super : ℕ → ℕ → List ℕ → Bool → List ℕ
 formatted_super size maxlen uuid is_wide =
     padded size
@@ -93,10 +88,10 @@ formatted_super size maxlen uuid is_wide =
     ++ big_endian 4 0 ++ big_endian 4 0 ++ big_endian 4 (features_of is_wide) ++ big_endian 4 0
     ++ uuid ++ big_endian 4 1)
 
--- the block with the features of a log whose block numbers have 64 bits: every other byte stays as it was
+-- no other byte changes
 unfoldable pub widened : List ℕ → List ℕ
 widened block = take 0x28 block ++ big_endian 4 wide_features ++ drop 0x2c block
 
--- the block with another s_sequence and s_start: every other byte stays as it was
+-- no other byte changes
 unfoldable pub with_tail : List ℕ → ℕ → ℕ → List ℕ
 with_tail block sequence start = take 0x18 block ++ big_endian 4 sequence ++ big_endian 4 start ++ drop 0x20 block

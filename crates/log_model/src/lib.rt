@@ -1,5 +1,6 @@
-//! What a reader finds in a log and a writer puts there: superblock, pieces and texts, the chain, what replay and an opening make
-//! of it, and its dump. `specs/` has the definitions, in the words of `journal_model`.
+//! What a reader finds in a log and a writer puts there.
+//!
+//! `specs/` defines superblock, pieces and texts, the chain and its replay, an opening, and the dump.
 #![tactic(auto)]
 
 mod log;

@@ -1,22 +1,20 @@
 //! What a reader finds in a log: tags, pieces, and the text of a transaction.
 use journal_model::{Block, BlockNo, Items};
 
-/// One tag of a descriptor block: it names the home block that one of the copies behind the descriptor
-/// belongs to.
+/// A tag of a descriptor block: it names the home block of one copy.
 #[derive(Clone, Copy, Debug, PartialEq, Eq)]
 pub struct Tag {
-    /// The home block.
     pub block: BlockNo,
     /// Flag 1: the copy began with the magic, which stands as zeros in the log.
     pub escaped: bool,
-    /// Flag 2: no UUID follows the tag.
+    /// Flag 2: no UUID follows.
     pub same_uuid: bool,
-    /// Flag 8: it is the last tag of its descriptor.
+    /// Flag 8: the last tag of its descriptor.
     pub last: bool,
 }
 
 impl Tag {
-    /// A tag that is not in use: it fills a list of tags that are to be read or made.
+    /// An unused tag, to fill a list.
     pub const UNUSED: Tag = Tag {
         block: BlockNo(0),
         escaped: false,
@@ -25,20 +23,19 @@ impl Tag {
     };
 }
 
-/// One revoke block, or one descriptor block with the copies behind it.
+/// A revoke block, or a descriptor block with its copies.
 #[derive(Debug, Drop)]
 pub enum Piece {
-    /// A revoke block, and the numbers of the home blocks that it revokes.
+    /// A revoke block, and the home blocks that it revokes.
     Revokes(Block, Items<BlockNo>),
-    /// A descriptor block, its tags, and the copies in the order of the tags, as they stand in the log.
+    /// A descriptor block, its tags, and their copies as they stand in the log.
     Copies(Block, Items<Tag>, Items<Block>),
 }
 
-/// The log blocks of one transaction: its pieces, and then the commit block.
+/// The log blocks of one transaction.
 #[derive(Debug, Drop)]
 pub struct Text {
-    /// Revoke blocks, and descriptor blocks with their copies, in the order of the log.
+    /// In log order.
     pub pieces: Items<Piece>,
-    /// The commit block.
     pub commit: Block,
 }

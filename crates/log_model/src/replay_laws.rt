@@ -1,4 +1,4 @@
-//! What follows from the definition of replay, each law on a function of its own.
+//! What follows from the definition of replay. Each function states one law; no body runs.
 
 ghost use Rattle.std.specs.Prelude.{◌≡◌, ◌<◌, List, ℕ};
 ghost use Rattle.log_model.specs.declared.log.Text.{Text};
@@ -11,7 +11,7 @@ pub fn one_newest_copy()
         IsNewest texts b one → IsNewest texts b other → one ≡ other }
 {}
 
-/// What replay of a chain makes of a volume is one volume.
+/// A replay of one chain over one volume makes one volume.
 pub fn replay_is_determined()
     ensures { (count : ℕ) (texts : List Text) (left one other : Volume) →
         IsReplayed count texts left one → IsReplayed count texts left other →

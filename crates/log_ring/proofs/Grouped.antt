@@ -1,4 +1,4 @@
--- A list in groups, each with one element before it: where each element stands.
+-- A list in groups with one element before each: where each element stands.
 use Rattle.std.proofs.Common.{arith, refl, inl, inr, sym, ap, ◌∙◌, mul-zero, length-append, length-take, length-drop}
 use Rattle.std.specs.Prelude.{◌≡◌, ℕ, zero, suc, ◌+◌, ◌-◌, ◌*◌, ◌/◌, ◌<◌, ◌≤◌, List, [], ◌∷◌, ◌++◌, length, map, take, drop, Some, slice_get}
 use Rattle.std.specs.List.{flat_map, range_with_len}
@@ -17,14 +17,14 @@ get-take (suc n) k [] below = refl
 get-take (suc n) zero (x ∷ xs) below = refl
 get-take (suc n) (suc k) (x ∷ xs) below = get-take n k xs (omega arith)
 
--- an element of what is behind them
+-- an element after the first ones
 get-drop : {X : Type 0} (n k at : ℕ) (xs : List X) → at ≡ n + k → slice_get (drop n xs) k ≡ slice_get xs at
 get-drop zero k at xs place = ap (slice_get xs) (omega arith)
 get-drop (suc n) k at [] place = refl
 get-drop (suc n) k zero (x ∷ xs) place = absurd (omega arith)
 get-drop (suc n) k (suc at) (x ∷ xs) place = get-drop n k at xs (omega arith)
 
--- the groups but the first are those of what is behind the first
+-- the groups but the first are those of the rest
 shifted : {X : Type 0} (n a m : ℕ) (xs : List X) →
     map (λ k. take n (drop (n * k) xs)) (range_with_len (a + 1) m) ≡ map (λ k. take n (drop (n * k) (drop n xs))) (range_with_len a m)
 shifted n a zero xs = refl
@@ -41,11 +41,11 @@ count-few c n positive = let less : ceil_div c n < c + 1 = (div-lt_iff_lt-mul po
     times zero = omega arith
     times (suc c) = let enough = times c in omega arith
 
--- nothing makes no group
+-- the empty list has no groups
 pub count-none : (n : ℕ) → 0 < n → ceil_div 0 n ≡ 0
 count-none n positive = div-eq_of_lt (omega arith)
 
--- some make one group more than those that are behind it
+-- a list has one group more than the rest
 count-more : (c n : ℕ) → 0 < n → 0 < c → ceil_div c n ≡ suc (ceil_div (c - n) n)
 count-more c n positive some =
     let one : ceil_div c n ≡ (c - 1) / n + 1 = ap (λ (k : ℕ). k / n) (omega arith) ∙ add-div_right (c - 1) positive in
@@ -70,7 +70,7 @@ groups-some n xs positive some =
     (ap (λ (k : ℕ). drop k xs) (mul-zero n))
     ∙ ap (λ gs. take n xs ∷ gs) (shifted n 0 (ceil_div (length (drop n xs)) n) xs)
 
--- an empty one has no group
+-- an empty list has no group
 pub groups-none : {X : Type 0} (n : ℕ) → 0 < n → groups {X = X} n [] ≡ []
 unfolding groups
 groups-none n positive = ap (λ (m : ℕ). map (λ k. take n (drop (n * k) [])) (range_with_len 0 m)) (count-none n positive)
@@ -84,32 +84,32 @@ module _ {X Y : Type 0} (first : List X → Y) (each : X → Y) (n : ℕ) where
   grouped xs = flat_map with_first (groups n xs)
 
   module _ (positive : 0 < n) where
-    -- the first group, and what is behind it
+    -- the first group, then the rest
     grouped-some : (xs : List X) → 0 < length xs → grouped xs ≡ with_first (take n xs) ++ grouped (drop n xs)
     grouped-some xs some = ap (flat_map with_first) (groups-some n xs positive some)
 
-    -- nothing stands where there is no group
+    -- the empty list makes nothing
     grouped-none : (xs : List X) → length xs ≡ 0 → grouped xs ≡ []
     grouped-none [] none = ap (flat_map with_first) (groups-none n positive)
     grouped-none (x ∷ xs) none = absurd (omega arith)
 
-    -- how many elements the first group takes
+    -- how many elements the first group makes
     length-first : (xs : List X) → length (with_first (take n xs)) ≡ suc (length (take n xs))
     length-first xs = ap (λ (m : ℕ). suc m) (length-map (take n xs) each)
 
-    -- and all groups
+    -- how many elements all groups make
     length-grouped : (xs : List X) → 0 < length xs → length (grouped xs) ≡ suc (length (take n xs)) + length (grouped (drop n xs))
     length-grouped xs some =
         ap length (grouped-some xs some) ∙ length-append (with_first (take n xs)) (grouped (drop n xs))
         ∙ ap (λ (m : ℕ). m + length (grouped (drop n xs))) (length-first xs)
 
-    -- a place behind the first group
+    -- a place after the first group
     behind-first : (xs : List X) (k j : ℕ) → n ≤ length xs → k ≡ n + 1 + j → slice_get (grouped xs) k ≡ slice_get (grouped (drop n xs)) j
     behind-first xs k j more place =
         ap (λ (ys : List Y). slice_get ys k) (grouped-some xs (omega arith))
         ∙ get-behind (with_first (take n xs)) (grouped (drop n xs)) k j (omega (arith, length-first xs, length-take n xs))
 
-    -- what stands before group g, which begins at this place of the list
+    -- what stands in front of group g
     pub first-at : (g at k : ℕ) (xs : List X) → at ≡ g * n → k ≡ g * (n + 1) → at < length xs →
         slice_get (grouped xs) k ≡ Some (first (take n (drop at xs)))
     first-at zero at k xs begins place within =
@@ -139,21 +139,21 @@ module _ {X Y : Type 0} (first : List X → Y) (each : X → Y) (n : ℕ) where
         behind-first xs k (k - (n + 1)) (omega arith) (omega arith)
         ∙ each-at g j (at - n) (k - (n + 1)) (drop n xs) x (omega arith) (omega arith) below (get-drop n (at - n) at xs (omega arith) ∙ there)
 
-    -- where a place is below the length, the list is not empty
+    -- if a place is below the length, the list is not empty
     some-there : (k : ℕ) (xs : List X) → k < length (grouped xs) → 0 < length xs
     some-there k [] within = absurd (omega (arith, ap length (grouped-none [] refl)))
     some-there k (x ∷ xs) within = omega arith
 
-    -- a list that is one group
+    -- a list of one group
     one-group : (xs : List X) → 0 < length xs → length xs ≤ n → length (grouped xs) ≡ suc (length xs)
     one-group xs some few =
         omega (arith, length-grouped xs some, length-take n xs, ap length (grouped-none (drop n xs) (length-drop n xs ∙ omega arith)))
 
-    -- a list that is more
+    -- a list of more groups
     more-groups : (xs : List X) → n ≤ length xs → length (grouped xs) ≡ n + 1 + length (grouped (drop n xs))
     more-groups xs more = omega (arith, length-grouped xs (omega arith), length-take n xs)
 
-    -- a place of a list that is one group
+    -- a place in a list of one group
     place-alone : (g j k : ℕ) (xs : List X) → k ≡ g * (n + 1) + j → j < n + 1 → k < length (grouped xs) → length xs ≤ n → g * n + (j - 1) < length xs
     place-alone zero j k xs place below within few =
         let some = some-there k xs within in
@@ -162,7 +162,7 @@ module _ {X Y : Type 0} (first : List X → Y) (each : X → Y) (n : ℕ) where
     place-alone (suc g) j k xs place below within few =
         let size = one-group xs (some-there k xs within) few in absurd (omega arith)
 
-    -- a place below the length is that of a group, or of an element in it
+    -- each place is that of a group, or of an element of one
     pub place-within : (g j k : ℕ) (xs : List X) → k ≡ g * (n + 1) + j → j < n + 1 → k < length (grouped xs) → g * n + (j - 1) < length xs
     place-within zero j k xs place below within = elim (cases_lt n (length xs)) [
       | inl more ↦ omega arith

@@ -1,4 +1,4 @@
--- The own text of a transaction, and the parts of its layout: they are the same blocks.
+-- The own text of a transaction has the same blocks as its layout.
 use Rattle.std.proofs.Common.{arith, refl, sym, ap, ap₂, ◌∙◌}
 use Rattle.std.specs.Prelude.{◌≡◌, ℕ, zero, suc, ◌+◌, ◌-◌, ◌*◌, true, List, [], ◌∷◌, ◌++◌, length, map, min, take, drop, unwrap_or, slice_get}
 use Rattle.std.specs.List.{flat_map, range_with_len}
@@ -21,7 +21,7 @@ use Rattle.log_ring.specs.declared.layout.Part.TheVariants.{Copy, Commit}
 use Rattle.log_ring.specs.Parts.{copy_parts, described, part_block, parts, revoke_part, revoke_parts}
 use Rattle.log_ring.proofs.Rows.{part-row, row-each, row-length, row-named, row-part}
 
--- what is made of each group of a list, and of each group of a row that numbers it, where the two agree at each place
+-- groups of a list and groups of its numbers make the same, if they agree at each place
 groups-alike : {X Y : Type 0} (f : List X → List Y) (g : List ℕ → List Y) (n : ℕ) (xs : List X) →
     ((k : ℕ) → f (take n (drop (n * k) xs)) ≡ g (range_with_len (n * k) (min n (length xs - n * k)))) →
     flat_map f (groups n xs) ≡ flat_map g (groups n (range_with_len 0 (length xs)))
@@ -41,7 +41,7 @@ module _ (l : Layout) (uuid : List ℕ) (sequence : ℕ) (entries : List (ℕ ×
   abbrev block_of : Part → List ℕ
   block_of = part_block l uuid sequence entries
 
-  -- the revoke blocks
+  -- the revoke blocks agree
   revokes-alike : flat_map piece_blocks (map (own_revokes l sequence) (groups (numbers_of l) (revoked entries)))
       ≡ map block_of (revoke_parts l (length (revoked entries)))
   revokes-alike =
@@ -59,7 +59,7 @@ module _ (l : Layout) (uuid : List ℕ) (sequence : ℕ) (entries : List (ℕ ×
       named [] = refl
       named (g ∷ gs) = ap (λ (bs : List (List ℕ)). block_of (revoke_part g) ∷ bs) (named gs)
 
-  -- the descriptors with their copies
+  -- the descriptors with their copies agree
   copies-alike : flat_map piece_blocks (map (own_copies l uuid sequence) (groups (tags_of l) (copied entries)))
       ≡ map block_of (copy_parts l (length (copied entries)))
   copies-alike =
@@ -97,7 +97,7 @@ module _ (l : Layout) (uuid : List ℕ) (sequence : ℕ) (entries : List (ℕ ×
       named [] = refl
       named (g ∷ gs) = ap (λ (bs : List (List ℕ)). map block_of (described g) ++ bs) (named gs) ∙ sym (map-append block_of (described g) (flat_map described gs))
 
-  -- all blocks of the own text
+  -- all blocks of the own text agree
   pub own-parts : text_blocks (own_text l uuid sequence entries) ≡ map block_of (parts l (length (copied entries)) (length (revoked entries)))
   unfolding own_text
   own-parts =

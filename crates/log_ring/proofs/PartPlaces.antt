@@ -28,7 +28,7 @@ length-revoke_parts l r =
     ∙ length-groups (numbers_of l) (range_with_len 0 r)
     ∙ ap (λ (n : ℕ). ceil_div n (numbers_of l)) (row-length 0 r)
 
--- the other blocks but the commit block are copies and descriptors
+-- the blocks between are copies and descriptors
 pub length-copy_parts : (l : Layout) (c : ℕ) → IsLayout l → length (copy_parts l c) ≡ c + ceil_div c (tags_of l)
 length-copy_parts l c layout =
     let all = length-parts l c 0 layout in
@@ -43,7 +43,7 @@ row-at c at below =
     slice_get-get_or (range_with_len 0 c) at 0 (subst (λ (m : ℕ). at < m) (sym (row-length 0 c)) below)
     ∙ ap Some (get_or-range_with_len 0 c at 0 below ∙ (omega arith))
 
--- a row that is not empty is a revoke block, or is named by a descriptor, with its first number and its length
+-- a row makes a revoke block or descriptor of its first number and length
 row-revokes : (a m : ℕ) → 0 < m → revoke_part (range_with_len a m) ≡ Revokes a m
 row-revokes a m some = ap₂ Revokes (row-first a m some) (row-length a m)
 
@@ -72,14 +72,14 @@ revokes-at l r k most first most_is positive begins below =
     ∙ ap₂ (λ (x y : ℕ). Some (Revokes x (min y (r - x)))) (sym same) (sym most_is)
 
 module _ (l : Layout) (c : ℕ) (layout : IsLayout l) (k most : ℕ) (most_is : most ≡ tags_of l) (some : 0 < most) (there : k < c + ceil_div c (tags_of l)) where
-  -- the group of block k, and its place there, which is 0 for the descriptor
+  -- the group of block k, and its place there, 0 for the descriptor
   abbrev group : ℕ
   group = k / (most + 1)
 
   abbrev place : ℕ
   place = k % (most + 1)
 
-  -- they say which block it is
+  -- group and place give the block
   split : k ≡ group * (most + 1) + place
   split = sym (div-add-mod' k (most + 1))
 
@@ -87,14 +87,14 @@ module _ (l : Layout) (c : ℕ) (layout : IsLayout l) (k most : ℕ) (most_is : 
   lies : place < most + 1
   lies = mod-lt k (omega arith)
 
-  -- the blocks, with the number of tags that is at hand
+  -- the blocks, with the number of tags at hand
   abbrev blocks : List Part
   blocks = grouped descriptor_part Copy most (range_with_len 0 c)
 
   same-blocks : copy_parts l c ≡ blocks
   same-blocks = ap (λ (n : ℕ). grouped descriptor_part Copy n (range_with_len 0 c)) (sym most_is)
 
-  -- the copy that it is, or the first of the descriptor's
+  -- the copy at the place, or the first of the descriptor's, is there
   pub copy-within : group * most + (place - 1) < c
   copy-within =
       let below : k < length (copy_parts l c) = subst (λ (m : ℕ). k < m) (sym (length-copy_parts l c layout)) there in
@@ -102,7 +102,7 @@ module _ (l : Layout) (c : ℕ) (layout : IsLayout l) (k most : ℕ) (most_is : 
       subst (λ (m : ℕ). group * most + (place - 1) < m) (row-length 0 c)
       (place-within descriptor_part Copy most some group place k (range_with_len 0 c) split lies within)
 
-  -- at place 0 it is the descriptor of the group
+  -- at place 0 stands the descriptor of the group
   pub descriptor-here : (first : ℕ) → first ≡ group * most → place ≡ 0 →
       slice_get (copy_parts l c) k ≡ Some (Descriptor first (min most (c - first)))
   descriptor-here first begins at_first =
@@ -114,7 +114,7 @@ module _ (l : Layout) (c : ℕ) (layout : IsLayout l) (k most : ℕ) (most_is : 
       ∙ ap (λ (g : List ℕ). Some (descriptor_part g)) (part-row most first c)
       ∙ ap Some (row-descriptor first (min most (c - first)) (omega arith))
 
-  -- at another place it is a copy
+  -- at another place stands a copy
   pub copy-here : (at : ℕ) → at ≡ group * most + (place - 1) → 0 < place → slice_get (copy_parts l c) k ≡ Some (Copy at)
   copy-here at is behind =
       let within = copy-within in
@@ -139,7 +139,7 @@ module _ (l : Layout) (c r k : ℕ) (layout : IsLayout l) where
       let all = length-before in
       get-front before (Commit ∷ []) k (omega arith) ∙ get-front (revoke_parts l r) (copy_parts l c) k (omega arith) ∙ stands
 
-  -- descriptors and copies stand behind them
+  -- descriptors and copies stand after them
   pub copy-stands : (p : Part) (j : ℕ) → k ≡ ceil_div r (numbers_of l) + j → j < c + ceil_div c (tags_of l) →
       slice_get (copy_parts l c) j ≡ Some p → slice_get (parts l c r) k ≡ Some p
   copy-stands p j place below stands =
@@ -151,7 +151,7 @@ module _ (l : Layout) (c r k : ℕ) (layout : IsLayout l) where
   pub commit-stands : k ≡ ceil_div r (numbers_of l) + (c + ceil_div c (tags_of l)) → slice_get (parts l c r) k ≡ Some Commit
   commit-stands last = let all = length-before in get-behind before (Commit ∷ []) k 0 (omega arith)
 
--- the block of the own text at a place is that of the part there
+-- the own text's block at a place is that of the part there
 pub text-at : (l : Layout) (uuid : List ℕ) (sequence : ℕ) (entries : List (ℕ × Entry)) (c r k : ℕ) (p : Part) →
     length (copied entries) ≡ c → length (revoked entries) ≡ r → slice_get (parts l c r) k ≡ Some p →
     slice_get (text_blocks (own_text l uuid sequence entries)) k ≡ Some (part_block l uuid sequence entries p)

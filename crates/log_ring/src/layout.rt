@@ -1,4 +1,4 @@
-//! The layout of a transaction in the log: how many blocks it takes, and what each of them is.
+//! How many log blocks a transaction takes, and what each of them is.
 ghost use Rattle.std.specs.Prelude.{◌≡◌, ℕ, ◌+◌, ◌<◌, ◌≤◌, ◌^◌, List, length, Some, slice_get};
 ghost use Rattle.journal_model.specs.declared.entry.Entry.{Entry};
 ghost use Rattle.log_model.specs.Chain.{ring_place};
@@ -15,23 +15,21 @@ use journal_model::LogLayout;
 use journal_model::layout::{HEADER_BYTES, REVOKE_HEADER_BYTES, UUID_BYTES};
 use std::marker::Model;
 
-/// Bytes of a descriptor that no tag takes: its header, the first tag's UUID, and room for a UUID behind the last tag.
+/// A descriptor's header, its first tag's UUID, and room for a UUID after the last tag.
 const DESCRIPTOR_BYTES: usize = HEADER_BYTES + 2 * UUID_BYTES;
 
-/// What a log block of a transaction is. Its copies and its revokes are counted from 0, each in the order of its entries.
+/// What a log block of a transaction is. Copies and revokes are counted from 0, in the order of the entries.
 #[derive(Clone, Copy)]
 pub enum Part {
     /// A revoke block with so many numbers, from this revoke on.
     Revokes { first: u64, numbers: u64 },
-    /// A descriptor with so many tags, from this copy on. Their copies follow it.
+    /// A descriptor with so many tags, from this copy on; their copies follow.
     Descriptor { first: u64, tags: u64 },
-    /// A copy.
     Copy(u64),
-    /// The commit block.
     Commit,
 }
 
-/// The log blocks of one transaction: revoke blocks, descriptors with their copies, and the commit block.
+/// The log blocks of one transaction: revoke blocks, descriptors with their copies, the commit block.
 /// Source: journal.rst, "Layout"; which blocks come first is this project's own.
 #[derive(Drop)]
 pub struct Layout {
@@ -52,7 +50,6 @@ impl Model for Layout {
     ghost invariant = { λ l. IsLayout l.layout × (l.copies ≤ 2 ^ 32) × (l.revokes ≤ 2 ^ 32) };
 }
 
-/// How many numbers one revoke block holds.
 fn numbers_of(layout: LogLayout) -> u64
     requires { IsLayout layout }
     ensures numbers { result ≡ numbers_of layout }
@@ -63,7 +60,7 @@ fn numbers_of(layout: LogLayout) -> u64
 }
 
 impl Layout {
-    /// The layout of a transaction of so many copies and revokes, in a log of this layout.
+    /// The layout of a transaction of so many copies and revokes.
     pub fn new(layout: LogLayout, copies: u64, revokes: u64) -> Self
         requires taken { IsLayout layout }
         requires copies { copies ≤ 2 ^ 32 }
@@ -77,8 +74,7 @@ impl Layout {
         }
     }
 
-    /// How many tags the writer puts into one descriptor: 122, 250 or 506, by the bytes of a block, and with numbers of 64 bits
-    /// 81, 167 or 337.
+    /// The most tags that the writer puts into a descriptor: by block size 122, 250 or 506; with 64-bit numbers 81, 167 or 337.
     /// Source: journal.rst, "Descriptor Block"; fs/jbd2/commit.c by behaviour (room for one more UUID is left).
     pub fn tags_of(layout: LogLayout) -> u64
         requires { IsLayout layout }
@@ -89,8 +85,7 @@ impl Layout {
         ((layout.block_size - DESCRIPTOR_BYTES) / layout.tag_bytes()) as u64
     }
 
-    /// The most copies that one transaction may have in a ring of so many blocks: with its descriptors and its commit
-    /// block it takes at most a quarter of the ring.
+    /// The most copies of one transaction: with its descriptors and commit block it takes at most a quarter of the ring.
     /// Source: fs/jbd2 by behaviour (`j_max_transaction_buffers` is a quarter of the log); that descriptors and the commit
     /// block count is this project's own.
     pub fn capacity(layout: LogLayout, ring_blocks: u64) -> u64
@@ -103,29 +98,26 @@ impl Layout {
         left / (tags + 1) * tags + (left % (tags + 1)).saturating_sub(1)
     }
 
-    /// How many log blocks it takes.
+    /// The number of its log blocks.
     pub fn blocks(&self) -> u64
         ensures { result ≡ need self.now.layout self.now.copies self.now.revokes }
     {
         self.copies + self.descriptors() + self.revoke_blocks() + 1
     }
 
-    /// How many descriptors it has.
     fn descriptors(&self) -> u64
         ensures { result ≡ ceil_div self.now.copies (tags_of self.now.layout) }
     {
         self.copies.div_ceil(Self::tags_of(self.layout))
     }
 
-    /// How many revoke blocks it has.
     fn revoke_blocks(&self) -> u64
         ensures { result ≡ ceil_div self.now.revokes (numbers_of self.now.layout) }
     {
         self.revokes.div_ceil(numbers_of(self.layout))
     }
 
-    /// What block `k` of the transaction is, counted from 0: the block there of the own text of each transaction with so many
-    /// copies and revokes.
+    /// What block `k`, counted from 0, is in the own text of any transaction with so many copies and revokes.
     pub fn part(&self, k: u64) -> Part
         requires { k < need self.now.layout self.now.copies self.now.revokes }
         ensures part { slice_get (parts self.now.layout self.now.copies self.now.revokes) k ≡ Some result }
@@ -139,7 +131,6 @@ impl Layout {
         part
     }
 
-    /// What block `k` of the transaction is, without its bytes.
     fn part_at(&self, k: u64) -> Part
         requires { k < need self.now.layout self.now.copies self.now.revokes }
         ensures part { slice_get (parts self.now.layout self.now.copies self.now.revokes) k ≡ Some result }
@@ -157,7 +148,6 @@ impl Layout {
         }
     }
 
-    /// What revoke block `k` is.
     fn revoke_part(&self, k: u64) -> Part
         requires { k < ceil_div self.now.revokes (numbers_of self.now.layout) }
         ensures part { slice_get (revoke_parts self.now.layout self.now.revokes) k ≡ Some result }
@@ -171,7 +161,7 @@ impl Layout {
         }
     }
 
-    /// What block `k` of the descriptors and their copies is.
+    /// Block `k` of the descriptors and their copies.
     fn copy_part(&self, k: u64) -> Part
         requires { k < self.now.copies + ceil_div self.now.copies (tags_of self.now.layout) }
         ensures part { slice_get (copy_parts self.now.layout self.now.copies) k ≡ Some result }
@@ -190,7 +180,7 @@ impl Layout {
         }
     }
 
-    /// The log block at which block `k` of the transaction stands, whose first block has position `start`.
+    /// The log block of block `k`, if the transaction begins at position `start`.
     pub fn place(&self, ring: &Ring, start: u64, k: u64) -> u64
         requires there { k < need self.now.layout self.now.copies self.now.revokes }
         requires few { start + k ≤ u64.MAX }

@@ -1,5 +1,4 @@
-//! The places and the room of a log: the ring of its blocks, and which block of a transaction is what. No call takes
-//! memory.
+//! Places and room in a log: the ring of its blocks, and what each block of a transaction is. No call takes memory.
 #![tactic(auto)]
 
 mod layout;

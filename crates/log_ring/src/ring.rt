@@ -1,4 +1,4 @@
-//! The ring of log blocks behind the superblock, and what is taken of it.
+//! What is taken and what is free of the ring of log blocks.
 ghost use Rattle.std.specs.Prelude.{◌≡◌, ◌+◌, ◌-◌, ◌<◌, ◌≤◌, ◌^◌, OnOk, IfOk, IfErr};
 ghost use Rattle.journal_model.specs.declared.refusal.JournalError.TheVariants.{NeedSpace};
 ghost use Rattle.log_model.specs.Chain.{place_from, ring_place};
@@ -11,15 +11,14 @@ use crate::layout::Layout;
 use journal_model::{JournalError, LogLayout};
 use std::marker::Model;
 
-/// The ring of a log, and how many of its blocks are taken, from the tail to the head. Both are positions: they count
-/// blocks over all laps and never fall.
+/// The ring of a log, taken from tail to head. Both are positions: they count blocks over all laps and never fall.
 /// Source: fs/jbd2 by behaviour (`j_head`, `j_tail`, `j_free`); positions in the place of places are this project's own.
 #[derive(Drop)]
 pub struct Ring {
-    /// The first block of the ring in the log, and how many it has.
+    /// The first log block of the ring, and the number of its blocks.
     first: u64,
     blocks: u64,
-    /// The position of the oldest taken block, and the position behind the newest one.
+    /// The oldest taken block's position, and the one after the newest.
     tail: u64,
     head: u64,
 }
@@ -35,7 +34,7 @@ impl Model for Ring {
 }
 
 impl Ring {
-    /// The ring of the log blocks `first` to `maxlen - 1`, at least 16 of them, behind block 0. Nothing of it is taken.
+    /// The ring of log blocks `first` to `maxlen - 1`, at least 16, of which none is taken.
     pub fn new(first: u32, maxlen: u32) -> Self
         requires behind { 0 < first }
         requires least { first + least_ring ≤ maxlen }
@@ -49,7 +48,7 @@ impl Ring {
         }
     }
 
-    /// How many blocks it has.
+    /// The number of ring blocks.
     pub fn blocks(&self) -> u64
         ensures blocks { result ≡ self.now.ring.blocks }
         ensures sound { IsRing self.now }
@@ -67,8 +66,8 @@ impl Ring {
         self.first + position % self.blocks
     }
 
-    /// The log block `count` blocks behind this one. The block behind the last is the first; from a block before the
-    /// first, as block 0, it is counted from the first.
+    /// The log block `count` blocks after this one; the first follows the last. From a block before the ring, as block 0,
+    /// it counts from the first.
     pub fn advance(&self, place: u64, count: u64) -> u64
         ensures place { result ≡ place_from self.now.ring place count }
         ensures low { self.now.ring.first ≤ result }
@@ -79,8 +78,7 @@ impl Ring {
         self.first + (behind + count % self.blocks) % self.blocks
     }
 
-    /// How many log blocks a transaction of so many copies and revokes needs, in a log of this layout. No transaction has
-    /// more than 2^32 of either.
+    /// The log blocks that so many copies and revokes need, at most 2^32 of either.
     /// Source: journal.rst, "Layout".
     pub fn need(layout: LogLayout, copies: u64, revokes: u64) -> u64
         requires taken { IsLayout layout }
@@ -91,7 +89,7 @@ impl Ring {
         Layout::new(layout, copies, revokes).blocks()
     }
 
-    /// How many blocks are free.
+    /// The number of free ring blocks.
     pub fn free(&self) -> u64
         ensures free { result ≡ free self.now }
         ensures sound { IsRing self.now }
@@ -99,7 +97,7 @@ impl Ring {
         self.blocks - (self.head - self.tail)
     }
 
-    /// The position of the next block that is taken.
+    /// The position of the next block to take.
     pub fn head(&self) -> u64
         ensures head { result ≡ self.now.head }
         ensures sound { IsRing self.now }
@@ -108,7 +106,7 @@ impl Ring {
         head
     }
 
-    /// The position of the oldest block that is taken and not released; where none is, the head.
+    /// The position of the oldest taken block; the head if none is taken.
     pub fn tail(&self) -> u64
         ensures tail { result ≡ self.now.tail }
         ensures sound { IsRing self.now }
@@ -117,12 +115,12 @@ impl Ring {
         tail
     }
 
-    /// Takes so many blocks, from the head on, and answers the position of the first. The head has to lie a lap below 2^64:
-    /// a log of 2^32 transactions does not come near it.
+    /// Takes `count` blocks from the head on, and answers the position of the first. The head must be at least a lap below
+    /// 2^64; a log of 2^32 transactions does not come near it.
     ///
     /// # Errors
     ///
-    /// `NeedSpace` where fewer are free: nothing changes.
+    /// `NeedSpace`: fewer blocks are free, and nothing changes.
     pub fn take(&mut self, count: u64) -> Result<u64, JournalError>
         requires { self.old.head + self.old.ring.blocks ≤ u64.MAX }
         ensures ok { IfOk result (λ position. (count ≤ free self.old) × (position ≡ self.old.head) × (self.new ≡ record self.old { head = self.old.head + count })) }
@@ -137,7 +135,7 @@ impl Ring {
         Ok(position)
     }
 
-    /// Releases so many blocks, from the tail on. No more than are taken may be released.
+    /// Releases `count` taken blocks from the tail on.
     pub fn release(&mut self, count: u64)
         requires { count ≤ taken self.old }
         ensures released { self.new ≡ record self.old { tail = self.old.tail + count } }

@@ -1,4 +1,4 @@
--- What a block says of itself says what stands at the front of the blocks there.
+-- What a block says of itself stands at the front there.
 use Rattle.std.proofs.Common.{◌≡◌, ℕ, suc, ◌+◌, ◌<◌, ◌≤◌, List, [], ◌∷◌, ◌++◌, length, take, drop, refl, sym, ◌∙◌, ap, subst, arith, inl, inr, length-append}
 use Rattle.std.proofs.lemmas.List.{length-take-le, take-append-drop}
 use Rattle.log_model.specs.declared.log.Tag.{Tag}
@@ -16,12 +16,12 @@ use Rattle.log_scan.specs.declared.finding.Found.{Found}
 use Rattle.log_scan.specs.declared.finding.Found.TheVariants.{RevokeBlock, Descriptor, CommitBlock, Malformed, Nothing}
 use Rattle.log_scan.specs.Finding.{BlockBegins, DescriptorBegins, FinderValue, IsFound, IsOther, Says}
 
--- a block with a header of one type has none of another, in short
+-- a header has one type
 other-type : {type other sequence : ℕ} {block : List ℕ} → (type ≡ other → ⊥) → HasHeader type sequence block → HasHeader other sequence block → ⊥
 other-type apart p q = apart (one_type p q)
 
 module _ (l : Layout) (count sequence behind : ℕ) (block : List ℕ) where
-  -- a descriptor with more tags than blocks stand behind it is as if nothing stood there
+  -- a descriptor with more tags than blocks after it counts as nothing
   pub other-many : (tags : List Tag) → IsDescriptor l count sequence block tags → behind < length tags → IsOther l count sequence behind block
   other-many tags is many = record {
     revokes = λ numbers other. other-type (λ e. absurd (omega arith)) other.has_header is.has_header;
@@ -34,7 +34,7 @@ module _ (l : Layout) (count sequence behind : ℕ) (block : List ℕ) where
     malformed (inr bad) = other-type (λ e. absurd (omega arith)) bad.0 is.has_header
 
 module _ (l : Layout) (count sequence : ℕ) where
-  -- where no block stands, nothing of the transaction does
+  -- where no block stands, nothing of the transaction stands
   pub found-none : (blocks : List (List ℕ)) (f : FinderValue) → blocks ≡ [] → IsFound l count sequence blocks f Nothing
   found-none blocks f empty = record {
     piece = record { none = λ p rest is e. none p rest (sym empty ∙ e) };
@@ -53,7 +53,7 @@ module _ (l : Layout) (count sequence : ℕ) where
         let same : b.block ≡ block = cc in
         subst P same b.is
 
-    -- a descriptor and so many of the blocks behind it are a piece
+    -- a descriptor and as many of the blocks after it are a piece
     descriptor-begins : (tags : List Tag) (n : ℕ) → n ≡ length tags → n ≤ length others → IsDescriptor l count sequence block tags →
         DescriptorBegins l count sequence blocks tags n
     descriptor-begins tags n same few is = let next : suc n ≡ 1 + n = omega arith in record {
@@ -87,7 +87,7 @@ module _ (l : Layout) (count sequence : ℕ) where
             let few = other.copies tags (subst (λ (x : List ℕ). IsDescriptor l count sequence x tags) same is.descriptor) in
             omega arith
 
-    -- what the block says of itself
+    -- what the block says of itself stands there
     pub found-says : (f : FinderValue) (found : Found) → Says l count sequence (length others) block f found → IsFound l count sequence blocks f found
     found-says f (RevokeBlock n) says = record {
       block = block;

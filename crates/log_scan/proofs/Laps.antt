@@ -20,14 +20,14 @@ lap-at : (r : Ring) (image : Image) (place k : ℕ) (d : List ℕ) → k < r.blo
 unfolding lap
 lap-at r image place k d below = get_or-map-range_with_len (λ j. image Log (place_from r place j)) 0 r.blocks k k d below (omega arith)
 
--- at a position in the ring a block stands, and behind it those from the next position on
+-- at a position in the ring stands a block, then those from the next position
 pub from-within : (s : Super) (image : Image) (k : ℕ) → k < (ring_of s).blocks →
     blocks_from s image k ≡ image Log (place_from (ring_of s) s.s_start k) ∷ blocks_from s image (suc k)
 from-within s image k below =
     drop-cons (lap (ring_of s) image s.s_start) k [] (let size = length-lap (ring_of s) image s.s_start in omega arith)
     ∙ ap (λ (b : List ℕ). b ∷ blocks_from s image (suc k)) (lap-at (ring_of s) image s.s_start k [] below)
 
--- as many stand behind it as the ring has left
+-- as many blocks follow as the ring has left
 pub length-from : (s : Super) (image : Image) (k : ℕ) → length (blocks_from s image k) ≡ (ring_of s).blocks - k
 length-from s image k = let size = length-lap (ring_of s) image s.s_start in let rest = length-drop k (lap (ring_of s) image s.s_start) in omega arith
 
@@ -35,11 +35,11 @@ length-from s image k = let size = length-lap (ring_of s) image s.s_start in let
 pub from-end : (s : Super) (image : Image) (k : ℕ) → (ring_of s).blocks ≤ k → blocks_from s image k ≡ []
 from-end s image k past = drop_all k (lap (ring_of s) image s.s_start) (let size = length-lap (ring_of s) image s.s_start in omega arith)
 
--- the blocks behind so many of those from a position on
+-- the blocks after the first n from a position
 pub from-behind : (s : Super) (image : Image) (k n : ℕ) → drop n (blocks_from s image k) ≡ blocks_from s image (k + n)
 from-behind s image k n = drop-drop n k (lap (ring_of s) image s.s_start)
 
--- the k-th of them stands at its place in the log
+-- the k-th block stands at its place in the log
 pub from-at : (s : Super) (image : Image) (position k at : ℕ) (block : List ℕ) → at ≡ position + k → slice_get (blocks_from s image position) k ≡ Some block →
     block ≡ image Log (place_from (ring_of s) s.s_start at)
 from-at s image position k at block is found =

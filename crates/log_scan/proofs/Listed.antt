@@ -1,4 +1,4 @@
--- The refusals of what stands in a log are neither the device's nor want of memory.
+-- Refusals by the content of a log are neither `Device` nor `Memory`.
 use Rattle.std.proofs.Common.{◌∙◌, sym, inl, inr, arith}
 use Rattle.std.specs.Prelude.{◌≡◌, ◌≢◌, ℕ, ◌≤◌, ◌==◌, Bool, true, false, if◌then◌else◌, List, [], ◌∷◌, map, Some}
 use Rattle.std.specs.List.{AllByRecursion}
@@ -8,7 +8,7 @@ use Rattle.journal_model.specs.Disk.{IsOneOf, Shape}
 use Rattle.log_model.specs.Superblock.{first_failed, super_refusal, super_tests}
 use Rattle.log_scan.specs.Refusals.{NamesDamage, super_refusals}
 
--- a refusal among these
+-- a refusal of tests is one of theirs
 among : (tests : List (Bool × JournalError)) (e : JournalError) → first_failed tests ≡ Some e → IsOneOf (map (λ t. t.1) tests) e
 among [] e refused = cc
 among ((true, f) ∷ tests) e refused = inr (among tests e refused)
@@ -22,13 +22,13 @@ refused-listed shape block e refused = either (shape.log_blocks == 0) refused
     either true is = inr (inr (inr (inl (cc))))
     either false is = among (super_tests shape block) e is
 
--- what is none of these is not on the list
+-- a refusal that is not listed is none of these
 not-among : (wrong : JournalError) (refusals : List JournalError) (e : JournalError) → AllByRecursion (λ f. f ≢ wrong) refusals → IsOneOf refusals e → e ≢ wrong
 not-among wrong [] e all none = absurd none
 not-among wrong (f ∷ refusals) e all (inl is) = λ same. all.0 (sym is ∙ same)
 not-among wrong (f ∷ refusals) e all (inr one) = not-among wrong refusals e all.1 one
 
--- those of a superblock
+-- a superblock's refusal is not `Device`
 pub super-device : (e : JournalError) → IsOneOf super_refusals e → e ≢ Device
 super-device e one =
     not-among Device super_refusals e
@@ -39,7 +39,7 @@ super-memory e one =
     not-among Memory super_refusals e
     ((λ e. cc), ((λ e. cc), ((λ e. cc), ((λ e. cc), ((λ e. cc), ((λ e. cc), ((λ e. cc), ((λ e. cc), tt)))))))) one
 
--- damage
+-- damage is not `Device`
 pub damage-device : (first end : ℕ) (e : JournalError) → NamesDamage first end e → e ≢ Device
 damage-device first end e names = λ device. let is = names.refusal in cc
 

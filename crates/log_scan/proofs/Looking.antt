@@ -1,4 +1,4 @@
--- What a block that was read says of itself says what stands at its position of the lap.
+-- What a block says of itself stands at its position of the lap.
 use Rattle.std.proofs.Common.{◌≡◌, ℕ, suc, ◌-◌, ◌<◌, List, ◌∷◌, length, sym, ◌∙◌, ap, subst, arith}
 use Rattle.journal_model.specs.declared.number.Area.TheVariants.{Log}
 use Rattle.log_model.specs.Chain.{place_from}
@@ -29,7 +29,7 @@ fits-says l count sequence behind blocks position block f CommitBlock below rest
 fits-says l count sequence behind blocks position block f Malformed below rest says = tt
 fits-says l count sequence behind blocks position block f Nothing below rest says = tt
 
--- what the block at a position says of itself
+-- what the block at a position says of itself stands there
 pub found-at : (s : Super) (limit : ℕ) (image : Image) (sequence position behind : ℕ) (block : List ℕ) (f : FinderValue) (found : Found) → position < (ring_of s).blocks →
     behind ≡ (ring_of s).blocks - position - 1 → block ≡ image Log (place_from (ring_of s) s.s_start position) →
     Says (layout_of s) limit sequence behind block f found → IsFound (layout_of s) limit sequence (blocks_from s image position) f found

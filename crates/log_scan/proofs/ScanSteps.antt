@@ -1,4 +1,4 @@
--- Where one step of the way over a log leads.
+-- Where one step of a scan leads.
 use Rattle.std.proofs.Common.{◌≡◌, ℕ, suc, ◌+◌, ◌<◌, List, [], ◌∷◌, ◌++◌, length, take, drop, slice_get, None, Some, ◌∙◌, ◌⊎◌, inl, inr, subst, sym, ap, refl, arith}
 use Rattle.std.proofs.lemmas.Option.{slice_get_within}
 use Rattle.journal_model.proofs.ListElements.{get-front}
@@ -22,23 +22,23 @@ use Rattle.log_scan.specs.Passing.{CommitPassed, CopiesPassed, IsPassed, LeadsTo
 use Rattle.log_scan.proofs.Laps.{from-at}
 use Rattle.log_scan.proofs.SoFar.{so-far-chain, so-far-damaged, so-far-none, so-far-piece, so-far-stopped, so-far-text, so-far-undamaged}
 
--- a log that was accepted on a device is so while that stays
+-- an accepted log stays so while the device stays
 pub accepted-stays : (log : Super) (old new : DeviceState) → Stays old new → IsAccepted old.shape.block_size old.shape.log_blocks log →
     IsAccepted new.shape.block_size new.shape.log_blocks log
 accepted-stays log old new stays accepted = subst (λ (s : Shape). IsAccepted s.block_size s.log_blocks log) (sym stays.shape) accepted
 
--- what was found in a device whose blocks are those of another, where a block of this number is due
+-- what was found on a device with the same blocks
 pub found-there : (s : Super) (limit : ℕ) (old mid : DeviceState) (number due position : ℕ) (f : FinderValue) (found : Found) → number ≡ due → Stays old mid →
     IsFound (layout_of s) limit number (blocks_from s (reading mid.disk) position) f found → IsFound (layout_of s) limit due (blocks_from s (reading old.disk) position) f found
 found-there s limit old mid number due position f found same stays is =
     subst (λ (d : Disk). IsFound (layout_of s) limit due (blocks_from s (reading d) position) f found) stays.disk
     (subst (λ (n : ℕ). IsFound (layout_of s) limit n (blocks_from s (reading mid.disk) position) f found) same is)
 
--- where the log begins nothing stands before the cursor
+-- at the begin of the log nothing stands before the cursor
 pub passed-none : (s : Super) (limit : ℕ) (image : Image) → IsPassed s limit image [] [] (record { position = 0; transactions = 0 })
 passed-none s limit image = so-far-none (layout_of s) limit s.s_sequence (lap (ring_of s) image s.s_start)
 
--- block k of the copies behind a descriptor
+-- block k of the copies after a descriptor
 copy-at : (block : List ℕ) (copies rest : List (List ℕ)) (k : ℕ) (copy : List ℕ) → slice_get copies k ≡ Some copy →
     slice_get ((block ∷ copies) ++ rest) (suc k) ≡ Some copy
 copy-at block copies rest k copy at = get-front copies rest k (slice_get_within copies k copy at) ∙ at
@@ -47,7 +47,7 @@ module _
     (s : Super) (limit : ℕ) (image : Image) (texts : List Text) (pieces : List Piece) (cursor : Cursor) (f : FinderValue)
     (so : IsPassed s limit image texts pieces cursor)
   where
-    -- behind a revoke block
+    -- where a revoke block leads
     leads-revokes : (n : ℕ) → RevokeBlockBegins (layout_of s) limit (s.s_sequence + cursor.transactions) (blocks_from s image cursor.position) (take n f.numbers) →
         RevokesPassed s limit image texts pieces (take n f.numbers) (cursor_behind cursor (RevokeBlock n))
     leads-revokes n is = record {
@@ -57,7 +57,7 @@ module _
           (Revokes is.block (take n f.numbers)) 1 (cursor.position + 1) refl is.begins;
     }
 
-    -- behind a descriptor and its copies
+    -- where a descriptor with its copies leads
     leads-copies : (n : ℕ) → DescriptorBegins (layout_of s) limit (s.s_sequence + cursor.transactions) (blocks_from s image cursor.position) (take n f.tags) n →
         CopiesPassed s limit image texts pieces (take n f.tags) cursor.position n (cursor_behind cursor (Descriptor n))
     leads-copies n is = record {
@@ -75,7 +75,7 @@ module _
           (Copies is.block (take n f.tags) is.copies) (1 + n) (cursor.position + (1 + n)) refl is.begins;
     }
 
-    -- behind a commit block
+    -- where a commit block leads
     leads-commit : BlockBegins (IsCommitBlock (s.s_sequence + cursor.transactions)) (blocks_from s image cursor.position) →
         CommitPassed s limit image texts pieces (cursor_behind cursor CommitBlock)
     leads-commit is = record {
@@ -84,7 +84,7 @@ module _
           so-far-text (layout_of s) limit s.s_sequence (omega arith) (lap (ring_of s) image s.s_start) texts pieces cursor.transactions cursor.position so is;
     }
 
-    -- where nothing more stands
+    -- where nothing more leads
     leads-nowhere : NothingBegins (layout_of s) limit (s.s_sequence + cursor.transactions) (blocks_from s image cursor.position) → AreTextsOf s limit image texts
     leads-nowhere nothing = record {
       chain = so-far-chain (layout_of s) limit s.s_sequence (omega arith) (lap (ring_of s) image s.s_start) texts pieces cursor.transactions cursor.position so nothing;
@@ -103,7 +103,7 @@ module _
     )
     leads-found Nothing is = leads-nowhere is
 
--- so many texts were counted
+-- the cursor counts the texts
 pub passed-count : (s : Super) (limit : ℕ) (image : Image) (texts : List Text) (pieces : List Piece) (cursor : Cursor) → IsPassed s limit image texts pieces cursor →
     cursor.transactions ≡ length texts
 passed-count s limit image texts pieces cursor so = let due = so.whole.due in omega arith
@@ -114,7 +114,7 @@ pub record HasPassed (s : Super) (limit : ℕ) (image : Image) (cursor : Cursor)
   pub pieces : List Piece
   pub passed : IsPassed s limit image texts pieces cursor
 
--- a step from there
+-- a step from there led here
 pub record HasLed (s : Super) (limit : ℕ) (image : Image) (f : FinderValue) (old new : Cursor) (found : Found) : Type 0 where
   pub texts : List Text
   pub pieces : List Piece
@@ -135,14 +135,14 @@ has-led s limit image f old new found so step = record {
 abbrev pub GoesOn : Found → Type 0
 GoesOn found = ((n : ℕ) × (found ≡ RevokeBlock n)) ⊎ (((n : ℕ) × (found ≡ Descriptor n)) ⊎ (found ≡ CommitBlock))
 
--- the cursor behind it is farther on
+-- then the cursor is farther on
 pub farther : (old new : Cursor) (found : Found) → GoesOn found → new ≡ cursor_behind old found → old.position < new.position
 farther old new found (inl (n, is)) behind = let at = rw is at behind in rw at (omega arith)
 farther old new found (inr (inl (n, is))) behind = let at = rw is at behind in rw at (omega arith)
 farther old new found (inr (inr is)) behind = let at = rw is at behind in rw at (omega arith)
 
 module _ (s : Super) (limit : ℕ) (image : Image) (f : FinderValue) (old new : Cursor) where
-  -- behind a piece or a commit block the way goes on
+  -- a revoke block, a descriptor or a commit block was passed
   pub revokes-passed : (n : ℕ) → HasLed s limit image f old new (RevokeBlock n) → HasPassed s limit image new
   revokes-passed n led = record { texts = led.texts; pieces = led.pieces ++ Revokes led.leads.block (take n f.numbers) ∷ []; passed = led.leads.passed }
 
@@ -158,7 +158,7 @@ module _ (s : Super) (limit : ℕ) (image : Image) (f : FinderValue) (old new : 
   goes-on found (inr (inl (n, is))) led = copies-passed n (subst (HasLed s limit image f old new) is led)
   goes-on found (inr (inr is)) led = commit-passed (subst (HasLed s limit image f old new) is led)
 
-  -- at a malformed block
+  -- a malformed block ends the chain
   pub led-damage : (place : ℕ) → place ≡ place_from (ring_of s) s.s_start old.position → HasLed s limit image f old new Malformed →
       IsEndOf s limit image (record { transactions = old.transactions; damaged = Some place })
   led-damage place at led = record {
@@ -168,11 +168,11 @@ module _ (s : Super) (limit : ℕ) (image : Image) (f : FinderValue) (old new : 
     behind = record { k = old.position; damaged = led.leads.1; refusal = ap Damage at };
   }
 
-  -- where nothing more stands
+  -- nothing more ends the chain
   pub led-end : HasLed s limit image f old new Nothing → IsEndOf s limit image (record { transactions = old.transactions; damaged = None })
   led-end led = record { texts = led.texts; chain = led.leads.chain; number = led.count; behind = led.leads }
 
--- in a device that stays
+-- the same on a device that stays
 pub led-there : (s : Super) (limit : ℕ) (old mid : DeviceState) (f : FinderValue) (from to : Cursor) (found : Found) → Stays old mid →
     HasPassed s limit (reading old.disk) from →
     ((texts : List Text) (pieces : List Piece) → IsPassed s limit (reading mid.disk) texts pieces from → LeadsTo s limit (reading mid.disk) texts pieces f from to found) →

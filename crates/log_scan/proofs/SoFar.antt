@@ -1,4 +1,4 @@
--- What stands before a position of the lap, on the way over it.
+-- What stands before a position of the lap, during a scan.
 use Rattle.std.proofs.Common.{◌≡◌, ℕ, ◌+◌, ◌<◌, List, [], ◌∷◌, ◌++◌, length, drop, refl, sym, ◌∙◌, ap, subst, arith, inl, inr, append_assoc, append-nil, length-append}
 use Rattle.std.specs.List.{AllByRecursion}
 use Rattle.std.proofs.lemmas.List.{drop-drop}
@@ -19,7 +19,7 @@ all-push : (P : Piece → Type 0) (ps : List Piece) (p : Piece) → AllByRecursi
 all-push P [] p all is = (is, tt)
 all-push P (q ∷ ps) p all is = (all.0, all-push P ps p all.1 is)
 
--- one more piece behind pieces
+-- one more piece after pieces
 pub pieces-more : (l : Layout) (count sequence : ℕ) (blocks : List (List ℕ)) (ps : List Piece) (n : ℕ) (p : Piece) (m : ℕ) →
     PiecesBegin l count sequence blocks ps n → PieceBegins l count sequence (drop n blocks) p m → PiecesBegin l count sequence blocks (ps ++ p ∷ []) (n + m)
 pieces-more l count sequence blocks ps n p m so next = record {
@@ -43,17 +43,17 @@ malformed-no-commit : (l : Layout) (count sequence : ℕ) (block : List ℕ) →
 malformed-no-commit l count sequence block (inl bad) commit = let types : commit_type ≡ descriptor_type = one_type commit bad.0 in omega arith
 malformed-no-commit l count sequence block (inr bad) commit = let types : commit_type ≡ revoke_type = one_type commit bad.0 in omega arith
 
--- no pieces
+-- no pieces are read yet
 pub pieces-none : (l : Layout) (count sequence : ℕ) (blocks : List (List ℕ)) → PiecesBegin l count sequence blocks [] 0
 pieces-none l count sequence blocks = record { well_formed = tt; front = record { split = refl; size = refl } }
 
--- the commit block behind pieces ends a text
+-- the commit block after pieces ends a text
 pub text-ends : (l : Layout) (count sequence : ℕ) (blocks : List (List ℕ)) (ps : List Piece) (n : ℕ) → PiecesBegin l count sequence blocks ps n →
     (b : BlockBegins (IsCommitBlock sequence) (drop n blocks)) → TextBegins l count sequence blocks (record { pieces = ps; commit = b.block }) (n + 1)
 text-ends l count sequence blocks ps n so b = text_begins l count sequence blocks ps n so (drop n blocks) refl b.block b.behind b.split b.is
 
 module _ (l : Layout) (count sequence : ℕ) (some : 0 < l.number_bytes) (blocks : List (List ℕ)) (ps : List Piece) (n : ℕ) (so : PiecesBegin l count sequence blocks ps n) where
-  -- behind all pieces stands no commit block, so no text begins
+  -- after all pieces stands no commit block, so no text begins
   pub no-text-nothing : NothingBegins l count sequence (drop n blocks) → NoTextBegins l count sequence blocks
   no-text-nothing nothing = either (drop n blocks) refl
     where
@@ -63,17 +63,17 @@ module _ (l : Layout) (count sequence : ℕ) (some : 0 < l.number_bytes) (blocks
           no_text_without_commit l count sequence blocks ps n so (b ∷ others) here some nothing.piece b others refl
           (λ commit. nothing.commit (record { block = b; behind = others; split = sym here; is = commit }))
 
-  -- nor where a malformed block stands
+  -- where a malformed block follows the pieces, no text begins
   pub no-text-malformed : BlockBegins (IsMalformed l count sequence) (drop n blocks) → NoTextBegins l count sequence blocks
   no-text-malformed b =
       no_text_without_commit l count sequence blocks ps n so (b.block ∷ b.behind) (sym b.split) some
       (rw b.split (none_at_end l count sequence b.block b.behind (damages b.is))) b.block b.behind refl (malformed-no-commit l count sequence b.block b.is)
 
--- no text
+-- no texts are read yet
 pub texts-none : (l : Layout) (count sequence : ℕ) (blocks : List (List ℕ)) → TextsBegin l count sequence blocks [] (sequence + 0) 0
 texts-none l count sequence blocks = record { numbered = tt; front = record { split = refl; size = refl }; due = refl }
 
--- at the beginning of the lap
+-- at the begin of the lap nothing is passed
 pub so-far-none : (l : Layout) (count sequence : ℕ) (blocks : List (List ℕ)) → StandBefore l count sequence blocks [] [] 0 0
 so-far-none l count sequence blocks = record {
   before = 0;
@@ -91,7 +91,7 @@ module _
     here : drop taken blocks ≡ drop so.inside (drop so.before blocks)
     here = ap (λ (n : ℕ). drop n blocks) so.place ∙ sym (drop-drop so.inside so.before blocks)
 
-    -- one more piece
+    -- one more piece is passed
     pub so-far-piece : (p : Piece) (n end : ℕ) → end ≡ taken + n → PieceBegins l count (sequence + number) (drop taken blocks) p n → StandBefore l count sequence blocks texts (pieces ++ p ∷ []) number end
     so-far-piece p n end is next = record {
       before = so.before;
@@ -107,7 +107,7 @@ module _
     abbrev pub ended-text : List ℕ → Text
     ended-text block = record { pieces = pieces; commit = block }
 
-    -- the commit block that ends a text
+    -- the commit block that ends a text is passed
     pub so-far-text : (b : BlockBegins (IsCommitBlock (sequence + number)) (drop taken blocks)) →
         StandBefore l count sequence blocks (texts ++ ended-text b.block ∷ []) [] (number + 1) (taken + 1)
     so-far-text commit = record {
@@ -126,14 +126,14 @@ module _
       text : Text
       text = ended-text commit.block
 
-    -- where a malformed block stands at the position, the texts are the chain
+    -- where a malformed block stands, the texts are the chain
     pub so-far-stopped : BlockBegins (IsMalformed l count (sequence + number)) (drop taken blocks) → IsChain l count sequence blocks texts
     so-far-stopped bad =
         texts_are_chain l count sequence blocks texts (sequence + number) so.before so.whole (drop so.before blocks) refl some
         (no-text-malformed l count (sequence + number) some (drop so.before blocks) pieces so.inside so.begun
         (subst (BlockBegins (IsMalformed l count (sequence + number))) here bad))
 
-    -- and it is the damaged one
+    -- that block is the damaged one
     pub so-far-damaged : BlockBegins (IsMalformed l count (sequence + number)) (drop taken blocks) → IsDamaged l count sequence blocks taken
     so-far-damaged bad =
         let there : BlockBegins (IsMalformed l count (sequence + number)) (drop so.inside (drop so.before blocks)) =
@@ -143,17 +143,17 @@ module _
         pieces so.inside so.begun (drop so.inside (drop so.before blocks)) refl there.block there.behind there.split there.is)
 
     module _ (nothing : NothingBegins l count (sequence + number) (drop taken blocks)) where
-      -- nothing more stands behind the pieces
+      -- nothing more follows the pieces
       there : NothingBegins l count (sequence + number) (drop so.inside (drop so.before blocks))
       there = subst (NothingBegins l count (sequence + number)) here nothing
 
-      -- so the texts are the chain
+      -- then the texts are the chain
       pub so-far-chain : IsChain l count sequence blocks texts
       so-far-chain =
           texts_are_chain l count sequence blocks texts (sequence + number) so.before so.whole (drop so.before blocks) refl some
           (no-text-nothing l count (sequence + number) some (drop so.before blocks) pieces so.inside so.begun there)
 
-      -- and no block is damaged
+      -- then no block is damaged
       pub so-far-undamaged : (k : ℕ) → IsDamaged l count sequence blocks k → ⊥
       so-far-undamaged = either (drop so.inside (drop so.before blocks)) refl
         where

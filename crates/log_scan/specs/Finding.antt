@@ -17,34 +17,30 @@ use Rattle.log_format.specs.Size.{most_tags}
 use Rattle.log_scan.specs.declared.finding.Found.{Found}
 use Rattle.log_scan.specs.declared.finding.Found.TheVariants.{RevokeBlock, Descriptor, CommitBlock, Malformed, Nothing}
 
--- the layout by which blocks are read, the block that was read last, and the tags and numbers that were read of the last
--- descriptor and revoke block
+-- layout, the block read last, and the last tags and numbers
 pub record FinderValue : Type 0 where
   pub layout : Layout
   pub block : List ℕ
   pub tags : List Tag
   pub numbers : List ℕ
 
--- bytes of the largest block that a log may have
 abbrev pub most_bytes : ℕ
 most_bytes = 4096
 
--- the most tags and numbers that a block of this size can have
 abbrev pub greatest_tags : ℕ
 greatest_tags = most_tags (narrow most_bytes)
 
 abbrev pub greatest_numbers : ℕ
 greatest_numbers = numbers_of (narrow most_bytes)
 
--- where home is not known, each number is taken that a tag of the log can spell
+-- each number that the log can spell, if home is not known
 abbrev pub every_block : Super → ℕ
 every_block s = every_number (layout_of s)
 
--- the numbers of home blocks are below this one, by the count of home's blocks, where that is known
+-- home block numbers are below this
 abbrev pub limit_of : Super → Option ℕ → ℕ
 limit_of s home_blocks = unwrap_or home_blocks (every_block s)
 
--- a block of the log area
 abbrev pub log_block : Image → ℕ → List ℕ
 log_block image place = image Log place
 
@@ -52,14 +48,14 @@ log_block image place = image Log place
 abbrev pub blocks_from : Super → Image → ℕ → List (List ℕ)
 blocks_from s image k = drop k (lap (ring_of s) image s.s_start)
 
--- the block is none of the transaction's, or a descriptor with more tags than blocks stand behind it
+-- none of the transaction's blocks, or a descriptor with more tags than blocks follow
 pub record IsOther (l : Layout) (count sequence behind : ℕ) (block : List ℕ) : Type 0 where
   pub revokes : (numbers : List ℕ) → IsRevokeBlock l count sequence block numbers → ⊥
   pub copies : (tags : List Tag) → IsDescriptor l count sequence block tags → behind < length tags
   pub commit : IsCommitBlock sequence block → ⊥
   pub malformed : IsMalformed l count sequence block → ⊥
 
--- what a block is to the transaction of this number, where so many blocks stand behind it
+-- what the block is to the transaction, with `behind` blocks after it
 abbrev pub Says : Layout → ℕ → ℕ → ℕ → List ℕ → FinderValue → Found → Type 0
 Says l count sequence behind block f (RevokeBlock n) = (n ≤ length f.numbers) × IsRevokeBlock l count sequence block (take n f.numbers)
 Says l count sequence behind block f (Descriptor n) = (n ≤ length f.tags) × (n ≤ behind) × IsDescriptor l count sequence block (take n f.tags)
@@ -67,7 +63,7 @@ Says l count sequence behind block f CommitBlock = IsCommitBlock sequence block
 Says l count sequence behind block f Malformed = IsMalformed l count sequence block
 Says l count sequence behind block f Nothing = IsOther l count sequence behind block
 
--- what was found stands within the ring, and was read; and the tags are of home blocks
+-- what was found lies within the ring, and tags name home blocks
 abbrev pub Fits : ℕ → ℕ → ℕ → FinderValue → Found → Type 0
 Fits limit blocks position f (RevokeBlock n) = (n ≤ length f.numbers) × (position + 1 ≤ blocks)
 Fits limit blocks position f (Descriptor n) = (n ≤ length f.tags) × (position + 1 + n ≤ blocks) × All (λ t. t.block < limit) (take n f.tags)
@@ -75,32 +71,28 @@ Fits limit blocks position f CommitBlock = position + 1 ≤ blocks
 Fits limit blocks position f Malformed = ⊤
 Fits limit blocks position f Nothing = ⊤
 
--- a revoke block with these numbers stands at the front of the blocks
 pub record RevokeBlockBegins (l : Layout) (count sequence : ℕ) (blocks : List (List ℕ)) (numbers : List ℕ) : Type 0 where
   pub block : List ℕ
   pub begins : PieceBegins l count sequence blocks (Revokes block numbers) 1
 
--- a descriptor with these tags, and a copy for each, stand at the front of the blocks
 pub record DescriptorBegins (l : Layout) (count sequence : ℕ) (blocks : List (List ℕ)) (tags : List Tag) (n : ℕ) : Type 0 where
   pub block : List ℕ
   pub copies : List (List ℕ)
   pub begins : PieceBegins l count sequence blocks (Copies block tags copies) (1 + n)
   pub size : n ≡ length tags
 
--- a block with P stands at the front of the blocks
 pub record BlockBegins (P : List ℕ → Type 0) (blocks : List (List ℕ)) : Type 0 where
   pub block : List ℕ
   pub behind : List (List ℕ)
   pub split : blocks ≡ block ∷ behind
   pub is : P block
 
--- nothing of the transaction stands at the front of the blocks, well formed or not
+-- nothing of the transaction stands first, well formed or not
 pub record NothingBegins (l : Layout) (count sequence : ℕ) (blocks : List (List ℕ)) : Type 0 where
   pub piece : NoPieceBegins l count sequence blocks
   pub commit : BlockBegins (IsCommitBlock sequence) blocks → ⊥
   pub malformed : BlockBegins (IsMalformed l count sequence) blocks → ⊥
 
--- what stands at the front of the blocks
 abbrev pub IsFound : Layout → ℕ → ℕ → List (List ℕ) → FinderValue → Found → Type 0
 IsFound l count sequence blocks f (RevokeBlock n) = RevokeBlockBegins l count sequence blocks (take n f.numbers)
 IsFound l count sequence blocks f (Descriptor n) = DescriptorBegins l count sequence blocks (take n f.tags) n
@@ -108,15 +100,14 @@ IsFound l count sequence blocks f CommitBlock = BlockBegins (IsCommitBlock seque
 IsFound l count sequence blocks f Malformed = BlockBegins (IsMalformed l count sequence) blocks
 IsFound l count sequence blocks f Nothing = NothingBegins l count sequence blocks
 
--- the sequence of a block's header, where it begins with the magic
+-- the sequence of a block's header, if it begins with the magic
 abbrev pub IsSequenceOf : List ℕ → Option ℕ → Type 0
 IsSequenceOf block found = MatchOption found (begins_with_magic block ≡ false) (λ sequence. (begins_with_magic block ≡ true) × (sequence ≡ sequence_in block))
 
--- so many calls at least were made of a device: each one is counted, up to the greatest count
+-- at least n calls were made, as far as they are counted
 abbrev pub MakesCalls : ℕ → DeviceState → DeviceState → Type 0
 MakesCalls n old new = min (old.calls + n) most_calls ≤ new.calls
 
--- the reads that it takes to find this: where the ring ends, none
 abbrev pub reads_of : Found → ℕ
 reads_of (RevokeBlock n) = 1
 reads_of (Descriptor n) = 1

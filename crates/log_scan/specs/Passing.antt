@@ -1,4 +1,4 @@
--- The way over a log, one piece after the other: what stands before a position, and where one step leads.
+-- What stands before a position of a log, and where one step of a scan leads.
 use Rattle.std.specs.Prelude.{◌≡◌, ℕ, ◌+◌, List, [], ◌∷◌, ◌++◌, length, take, drop, Some, slice_get}
 use Rattle.log_model.specs.declared.log.Tag.{Tag}
 use Rattle.log_model.specs.declared.log.Piece.{Piece}
@@ -16,7 +16,7 @@ use Rattle.log_scan.specs.declared.finding.Found.TheVariants.{RevokeBlock, Descr
 use Rattle.log_scan.specs.Finding.{FinderValue, log_block}
 use Rattle.log_scan.specs.Scanning.{AreTextsOf, IsChainOf}
 
--- these texts, and then these pieces of the next one, are the first blocks, so many of each
+-- the first `taken` blocks are these `number` texts, then these pieces of the next one
 pub record StandBefore (l : Layout) (count sequence : ℕ) (blocks : List (List ℕ)) (texts : List Text) (pieces : List Piece) (number taken : ℕ) : Type 0 where
   pub before : ℕ
   pub inside : ℕ
@@ -24,12 +24,12 @@ pub record StandBefore (l : Layout) (count sequence : ℕ) (blocks : List (List 
   pub begun : PiecesBegin l count (sequence + number) (drop before blocks) pieces inside
   pub place : taken ≡ before + inside
 
--- these texts of a log, and then these pieces of the next one, stand before the cursor
+-- the same, before a cursor
 abbrev pub IsPassed : Super → ℕ → Image → List Text → List Piece → Cursor → Type 0
 IsPassed s limit image texts pieces cursor =
     StandBefore (layout_of s) limit s.s_sequence (lap (ring_of s) image s.s_start) texts pieces cursor.transactions cursor.position
 
--- the cursor behind what was found there: it stays before what is no part of a transaction
+-- the cursor stays at what is no part of a transaction
 abbrev pub cursor_behind : Cursor → Found → Cursor
 cursor_behind cursor (RevokeBlock n) = record { position = cursor.position + 1; transactions = cursor.transactions }
 cursor_behind cursor (Descriptor n) = record { position = cursor.position + (1 + n); transactions = cursor.transactions }
@@ -37,17 +37,15 @@ cursor_behind cursor CommitBlock = record { position = cursor.position + 1; tran
 cursor_behind cursor Malformed = cursor
 cursor_behind cursor Nothing = cursor
 
--- a revoke block with these numbers was passed
 pub record RevokesPassed (s : Super) (limit : ℕ) (image : Image) (texts : List Text) (pieces : List Piece) (numbers : List ℕ) (cursor : Cursor) : Type 0 where
   pub block : List ℕ
   pub passed : IsPassed s limit image texts (pieces ++ Revokes block numbers ∷ []) cursor
 
--- these are so many blocks of the log, from this position of the ring on
+-- n log blocks from this ring position on
 pub record StandAt (s : Super) (image : Image) (position n : ℕ) (copies : List (List ℕ)) : Type 0 where
   pub count : length copies ≡ n
   pub each : (k : ℕ) (copy : List ℕ) → slice_get copies k ≡ Some copy → copy ≡ log_block image (place_from (ring_of s) s.s_start (position + k))
 
--- a descriptor with these tags at this position, and as many copies behind it, were passed
 pub record CopiesPassed
     (s : Super) (limit : ℕ) (image : Image) (texts : List Text) (pieces : List Piece) (tags : List Tag) (position n : ℕ) (cursor : Cursor) : Type 0 where
   pub block : List ℕ
@@ -55,12 +53,11 @@ pub record CopiesPassed
   pub stand : StandAt s image (position + 1) n copies
   pub passed : IsPassed s limit image texts (pieces ++ Copies block tags copies ∷ []) cursor
 
--- the commit block of a transaction was passed
 pub record CommitPassed (s : Super) (limit : ℕ) (image : Image) (texts : List Text) (pieces : List Piece) (cursor : Cursor) : Type 0 where
   pub commit : List ℕ
   pub passed : IsPassed s limit image (texts ++ record { pieces = pieces; commit = commit } ∷ []) [] cursor
 
--- where a step leads, by what was found: behind that, or to a damaged block, or to the end of the chain
+-- after what was found, to a damaged block, or to the end of the chain
 abbrev pub LeadsTo : Super → ℕ → Image → List Text → List Piece → FinderValue → (old new : Cursor) → Found → Type 0
 LeadsTo s limit image texts pieces f old new (RevokeBlock n) = RevokesPassed s limit image texts pieces (take n f.numbers) new
 LeadsTo s limit image texts pieces f old new (Descriptor n) = CopiesPassed s limit image texts pieces (take n f.tags) old.position n new

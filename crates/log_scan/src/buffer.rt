@@ -13,7 +13,7 @@ use journal_model::Area;
 use log_format::{Super, unescape};
 use std::marker::Model;
 
-/// A buffer of one block of at most 4096 bytes. It holds them itself, and takes no memory. Contracts see the block.
+/// A block of at most 4096 bytes, held in place. Contracts see the block.
 #[derive(Drop)]
 pub struct BlockBuffer {
     bytes: [u8; BlockBuffer::MOST_BYTES],
@@ -32,10 +32,10 @@ impl Model for BlockBuffer {
 }
 
 impl BlockBuffer {
-    /// Bytes of the largest block that it can hold.
+    /// The greatest block size.
     pub const MOST_BYTES: usize = 4096;
 
-    /// A block of so many zeros.
+    /// A block of `size` zeros.
     pub fn new(size: usize) -> Self
         requires { size ≤ most_bytes }
         ensures { length result ≡ size }
@@ -46,7 +46,6 @@ impl BlockBuffer {
         }
     }
 
-    /// The block.
     pub fn bytes(&self) -> &[u8]
         ensures { result.now ≡ self.now }
     {
@@ -57,7 +56,7 @@ impl BlockBuffer {
     ///
     /// # Errors
     ///
-    /// The read failed. What the buffer holds is then not said.
+    /// The read failed: the content is unspecified.
     pub fn read<D: Device>(&mut self, device: &mut D, area: Area, n: u64) -> Result<(), DeviceFault>
         requires size { length self.old ≡ (D.state device.old).shape.block_size }
         requires there { n < blocks_in (D.state device.old).shape area }
@@ -70,8 +69,7 @@ impl BlockBuffer {
         device.read(area, n, &mut self.bytes[..self.size])
     }
 
-    /// Writes the features of a log whose block numbers have 64 bits into the block, which is a superblock of 1024, 2048 or 4096
-    /// bytes.
+    /// Gives a superblock (1024, 2048 or 4096 bytes) the features of 64-bit block numbers.
     pub fn widen(&mut self)
         requires { IsBlockSize (length self.old) }
         ensures size { length self.new ≡ length self.old }
@@ -80,8 +78,7 @@ impl BlockBuffer {
         Super::widen(&mut self.bytes[..self.size]);
     }
 
-    /// Puts the magic back into the first four bytes where the block stands for an escaped copy. It has 1024, 2048 or 4096
-    /// bytes.
+    /// Restores the magic at the front if `escaped`; the block has 1024, 2048 or 4096 bytes.
     pub fn unescape(&mut self, escaped: bool)
         requires { IsBlockSize (length self.old) }
         ensures size { length self.new ≡ length self.old }

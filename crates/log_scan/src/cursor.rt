@@ -1,4 +1,4 @@
-//! The way over a log, one piece after the other.
+//! How a scan goes over a log, piece by piece.
 ghost use Rattle.std.specs.Prelude.{◌≡◌, ◌<◌, ◌≤◌, ◌^◌, List, length, IfOk, IfErr, OnErr, MatchResult};
 ghost use Rattle.log_model.specs.declared.log.Piece.{Piece};
 ghost use Rattle.log_model.specs.declared.log.Text.{Text};
@@ -15,17 +15,17 @@ use crate::log::Log;
 use block_device::Device;
 use journal_model::JournalError;
 
-/// How far the way over a log is.
+/// How far a scan has come.
 #[derive(Clone, Copy, Debug, PartialEq, Eq)]
 pub struct Cursor {
-    /// The position in the ring, in blocks from where the log begins.
+    /// In ring blocks from the begin of the log.
     pub position: u64,
-    /// How many complete transactions stand before it.
+    /// The complete transactions before it.
     pub transactions: u64,
 }
 
 impl Cursor {
-    /// A cursor where the log begins.
+    /// A cursor at the begin of the log.
     pub fn new() -> Self
         ensures { result ≡ record { position = 0; transactions = 0 } }
     {
@@ -35,10 +35,9 @@ impl Cursor {
         }
     }
 
-    /// Looks at what stands at the cursor, and goes behind it: behind a revoke block, a descriptor with its copies, or a
-    /// commit block. Before a malformed block, and before what is no part of the transaction that is due, it stays.
-    ///
-    /// The numbers of home blocks are tested where `home_blocks` is known.
+    /// Finds what stands at the cursor and moves after it: a revoke block, a descriptor with its copies, or a
+    /// commit block. At a malformed block, or one that is no part of the due transaction, it stays. `home_blocks`
+    /// are tested if known.
     ///
     /// # Errors
     ///
@@ -73,7 +72,6 @@ impl Cursor {
         Ok(found)
     }
 
-    /// The cursor behind what was found at it.
     fn behind(self, found: Found) -> Self
         requires few { self.transactions ≤ self.position }
         requires room { (cursor_behind self found).position < 2 ^ 64 }

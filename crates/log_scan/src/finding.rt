@@ -23,29 +23,26 @@ use log_format::{Descriptor, Header, RevokeBlock};
 use log_model::Tag;
 use std::marker::Model;
 
-/// The most tags of the largest descriptor.
 const MOST_TAGS: usize = (BlockBuffer::MOST_BYTES - HEADER_BYTES) / TAG_BYTES;
 
-/// The most numbers of the largest revoke block.
 const MOST_NUMBERS: usize = (BlockBuffer::MOST_BYTES - REVOKE_HEADER_BYTES) / NUMBER_BYTES;
 
-/// What stands at a place of the log, where a block of one transaction is due.
+/// What stands where a block of some transaction is due.
 #[derive(Clone, Copy)]
 pub enum Found {
     /// A revoke block with so many numbers.
     RevokeBlock(usize),
-    /// A descriptor with so many tags, and in the ring as many copies behind it.
+    /// A descriptor with so many tags, and as many copies after it in the ring.
     Descriptor(usize),
-    /// The commit block of the transaction.
     CommitBlock,
-    /// A descriptor or revoke block of the transaction that is not well formed.
+    /// A malformed descriptor or revoke block of the transaction.
     Malformed,
-    /// No block of the transaction, or a descriptor whose copies don't fit into the ring, or the ring ends.
+    /// No block of the transaction, a descriptor whose copies do not fit the ring, or the ring's end.
     Nothing,
 }
 
-/// Reads blocks of a log one by one into a buffer of one block, and says what stands there. It keeps the tags of the last
-/// descriptor and the numbers of the last revoke block, too.
+/// Reads log blocks one by one and finds what they are. It keeps the tags of the last descriptor and the numbers of the last
+/// revoke block.
 #[derive(Drop)]
 pub struct Finder {
     layout: LogLayout,
@@ -69,7 +66,7 @@ impl Model for Finder {
 }
 
 impl Finder {
-    /// A finder for logs of this layout. It holds its buffers itself, and takes no memory.
+    /// A finder for logs of this layout. It takes no memory.
     pub fn new(layout: LogLayout) -> Self
         requires { IsLayout layout }
         ensures { result.layout ≡ layout }
@@ -82,7 +79,7 @@ impl Finder {
         }
     }
 
-    /// The tags of the descriptor that was found last.
+    /// The tags of the last descriptor found.
     pub fn tags(&self, count: usize) -> &[Tag]
         requires { count ≤ length self.now.tags }
         ensures { result.now ≡ take count self.now.tags }
@@ -90,7 +87,7 @@ impl Finder {
         &self.tags[..count]
     }
 
-    /// The numbers of the revoke block that was found last.
+    /// The numbers of the last revoke block found.
     pub fn numbers(&self, count: usize) -> &[BlockNo]
         requires { count ≤ length self.now.numbers }
         ensures { result.now ≡ take count self.now.numbers }
@@ -98,7 +95,7 @@ impl Finder {
         &self.numbers[..count]
     }
 
-    /// Tag `k` of the descriptor that was found last.
+    /// Tag `k` of the last descriptor found.
     pub fn tag(&self, k: usize) -> Tag
         requires { k < length self.now.tags }
         ensures { slice_get self.now.tags k ≡ Some result }
@@ -107,7 +104,7 @@ impl Finder {
         tags[k]
     }
 
-    /// The block that was read last.
+    /// The block read last.
     pub fn block(&self) -> &[u8]
         ensures block { result.now ≡ self.now.block }
         ensures size { length result.now ≡ self.now.layout.block_size }
@@ -115,12 +112,11 @@ impl Finder {
         self.block.bytes()
     }
 
-    /// Reads the copy at this position of the lap, as replay writes it home: where it is escaped, the magic stands again in
-    /// its first four bytes. The tags that were found last stay.
+    /// Reads the copy at a position of the lap, unescaped. The tags found last stay.
     ///
     /// # Errors
     ///
-    /// `Device`: the read failed. What the block holds is then not said.
+    /// `Device`: the read failed, and the block is unspecified.
     pub fn read_copy<D: Device>(
         &mut self,
         device: &mut D,
@@ -143,12 +139,12 @@ impl Finder {
         Ok(())
     }
 
-    /// Reads the block at this place of the log area, and answers the sequence of its header, where it begins with the magic.
-    /// The tags and numbers that were found last stay.
+    /// Reads the block at a log place, and answers its header's sequence; `None` without the magic. Tags and numbers found
+    /// last stay.
     ///
     /// # Errors
     ///
-    /// `Device`: the read failed. What the block holds is then not said.
+    /// `Device`: the read failed, and the block is unspecified.
     pub fn sequence_at<D: Device>(
         &mut self,
         device: &mut D,
@@ -167,12 +163,12 @@ impl Finder {
         Ok(Header::read(self.block.bytes()).map(|header| header.sequence))
     }
 
-    /// Reads the block at this position of the lap, and says what it is to the transaction `sequence`. A descriptor or revoke
-    /// block that names a block at or above `home_blocks` is malformed; where home is not known, none is for its numbers.
+    /// Reads the block at a position of the lap, and says what it is to the transaction `sequence`. A descriptor or revoke
+    /// block that names a block at or above a known `home_blocks` is malformed.
     ///
     /// # Errors
     ///
-    /// `Device`: the read failed. What the buffers hold is then not said.
+    /// `Device`: the read failed, and the buffers are unspecified.
     pub fn look<D: Device>(
         &mut self,
         device: &mut D,
@@ -197,8 +193,7 @@ impl Finder {
         Ok(self.parse(home_blocks, sequence, log.blocks() - position - 1))
     }
 
-    /// What the block is to the transaction `sequence`, where so many blocks stand behind it in the ring, and the numbers of
-    /// home blocks are below this limit.
+    /// What the block is, with `behind` blocks after it in the ring.
     fn parse(&mut self, home_blocks: Option<u64>, sequence: u64, behind: u64) -> Found
         ensures says { Says self.old.layout (count_of self.old.layout home_blocks) sequence behind self.old.block self.new result }
         ensures block { self.new.block ≡ self.old.block }
@@ -218,7 +213,6 @@ impl Finder {
         }
     }
 
-    /// What the block is, which has the header of a descriptor.
     fn parse_descriptor(&mut self, home_blocks: Option<u64>, behind: u64) -> Found
         requires { HasHeader descriptor_type (sequence_in self.old.block) self.old.block }
         ensures says { Says self.old.layout (count_of self.old.layout home_blocks) (sequence_in self.old.block) behind self.old.block self.new result }
@@ -232,7 +226,6 @@ impl Finder {
         }
     }
 
-    /// What the block is, which has the header of a revoke block.
     fn parse_revokes(&mut self, home_blocks: Option<u64>) -> Found
         requires { HasHeader revoke_type (sequence_in self.old.block) self.old.block }
         ensures says { (behind : ℕ) → Says self.old.layout (count_of self.old.layout home_blocks) (sequence_in self.old.block) behind self.old.block self.new result }

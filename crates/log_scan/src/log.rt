@@ -1,4 +1,4 @@
-//! A log whose superblock was accepted.
+//! The fields and ring places of a log whose superblock was accepted.
 ghost use Rattle.std.specs.Prelude.{◌≡◌, ◌<◌, ◌+◌, ◌^◌, ◌≤◌, ◌==◌};
 ghost use Rattle.log_model.specs.Chain.{place_from};
 ghost use Rattle.log_model.specs.Opening.{layout_of, ring_of};
@@ -9,7 +9,7 @@ use log_format::Super;
 use log_ring::Ring;
 use std::marker::Model;
 
-/// A log whose superblock was accepted: its fields, and the places of its ring. Contracts see the fields.
+/// A log whose superblock was accepted. Contracts see the fields.
 #[derive(Drop)]
 pub struct Log {
     fields: Super,
@@ -29,7 +29,7 @@ impl Model for Log {
 }
 
 impl Log {
-    /// The log of these fields, whose ring has at least 16 blocks.
+    /// The log of these fields, with at least 16 ring blocks.
     pub fn new(fields: Super) -> Self
         requires behind { 0 < fields.s_first }
         requires least { fields.s_first + least_ring ≤ fields.s_maxlen }
@@ -41,28 +41,26 @@ impl Log {
         }
     }
 
-    /// The fields of the superblock.
     pub fn fields(&self) -> &Super
         ensures { result.now ≡ self.now }
     {
         &self.fields
     }
 
-    /// The layout of its blocks.
     pub fn layout(&self) -> LogLayout
         ensures { result ≡ layout_of self.now }
     {
         self.fields.layout()
     }
 
-    /// Whether the log is clean: it holds no transaction.
+    /// Whether the log holds no transaction.
     pub fn is_clean(&self) -> bool
         ensures { result ≡ (self.now.s_start == 0) }
     {
         self.fields.s_start == 0
     }
 
-    /// The number of the first transaction in the log, in a clean log the one before the next.
+    /// The number of the log's first transaction; in a clean log, the number before the next one.
     pub fn first_number(&self) -> u64
         ensures value { result ≡ self.now.s_sequence }
         ensures small { result < 2 ^ 32 }
@@ -70,15 +68,14 @@ impl Log {
         u64::from(self.fields.s_sequence)
     }
 
-    /// How many blocks the ring has.
+    /// The number of ring blocks.
     pub fn blocks(&self) -> u64
         ensures { result ≡ (ring_of self.now).blocks }
     {
         self.ring.blocks()
     }
 
-    /// The place in the log area of the k-th block of the ring, counted from where the log begins, or in a clean log from the
-    /// ring's first block.
+    /// The log place of ring block `k`, counted from the begin of the log (in a clean log, of the ring).
     pub fn place(&self, k: u64) -> u64
         ensures place { result ≡ place_from (ring_of self.now) self.now.s_start k }
         ensures ring { self.now.s_first ≤ result }

@@ -1,4 +1,4 @@
-//! The way over a log from where it begins to the end of its chain.
+//! Where the chain of a log ends.
 ghost use Rattle.std.specs.Prelude.{◌≡◌, ◌≤◌, length, IfOk, IfErr, MatchResult, OnOk};
 ghost use Rattle.journal_model.specs.Disk.{reading};
 ghost use Rattle.log_model.specs.Opening.{layout_of, ring_of};
@@ -14,21 +14,19 @@ use crate::log::Log;
 use block_device::Device;
 use journal_model::JournalError;
 
-/// Where the chain of a log ends.
+/// The end of a log's chain.
 #[derive(Clone, Copy, Debug, PartialEq, Eq)]
 pub struct ChainEnd {
-    /// How many complete transactions stand before it.
+    /// The complete transactions before it.
     pub transactions: u64,
-    /// The place in the log area of the descriptor or revoke block that ends it, where that is of the number that is due there and
-    /// malformed.
+    /// The log place of the malformed block of the due number that ends it, if any.
     pub damaged: Option<u64>,
 }
 
-/// Goes over a log that is not clean to the end of its chain, whatever stands there: how many complete transactions it has, and the
-/// malformed block behind them, if there is one. One block is read at a time, and no copy is.
+/// Scans a log that is not clean to the end of its chain: its complete transactions, and the malformed block after them, if any. It
+/// reads one block at a time, and no copies.
 ///
-/// The numbers of home blocks are tested where `home_blocks` is known. The bound of one lap is kept, and a descriptor whose
-/// copies don't fit into it ends the chain.
+/// `home_blocks` are tested if known. A scan ends after one lap, or at a descriptor whose copies do not fit that lap.
 /// Source: fs/jbd2/recovery.c by behaviour; the bound and the malformed block are this project's own.
 ///
 /// # Errors
@@ -69,17 +67,13 @@ pub fn find_end<D: Device>(
     }
 }
 
-/// How many complete transactions a log has that is not clean: the texts of its chain. The number behind the last of them is
-/// that of the first one and this count. One block is read at a time, and no copy is.
-///
-/// The numbers of home blocks are tested where `home_blocks` is known. The bound of one lap is kept, and a descriptor whose
-/// copies don't fit into it ends the chain.
+/// The number of complete transactions of a log that is not clean, found as by `find_end`.
 /// Source: fs/jbd2/recovery.c by behaviour; the bound and `Damage` are this project's own.
 ///
 /// # Errors
 ///
-/// `Damage`: a descriptor or revoke block behind the complete transactions, of the number that is due there, is malformed, and
-/// stands at this place of the log area. `Device`: a read failed.
+/// - `Damage`: a malformed descriptor or revoke block of the due number follows these transactions, at this log place.
+/// - `Device`: a read failed.
 pub fn scan<D: Device>(
     device: &mut D,
     log: &Log,

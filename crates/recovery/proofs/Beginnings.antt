@@ -89,7 +89,7 @@ module _
         next.text.commit own next.is.pieces next.is.commit there in
         record { text = next.text; rest = next.rest; more = more.0; split = next.split; pieces_are = more.1 }
 
-    -- if it has as many, these are all
+    -- if it has as many, these are the whole chain
     pub is-chain : number ≡ length chain → chain ≡ texts
     is-chain all =
         let due = so.whole.due in

@@ -92,7 +92,7 @@ covered-more t ts i b covered =
     let before = covered.not_before in
     record { revoker = suc covered.revoker; text = covered.text; not_before = omega arith; stands = covered.stands; revokes = covered.revokes }
 
--- and without that text
+-- and one without that text
 pub covered-tail : (t : Text) (ts : List Text) (i b : ℕ) → IsCovered (t ∷ ts) (suc i) b → IsCovered ts i b
 covered-tail t ts i b covered = at covered.revoker covered.not_before covered.stands
   where

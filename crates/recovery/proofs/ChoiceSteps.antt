@@ -13,12 +13,12 @@ use Rattle.block_tables.specs.Revokes.{BlockTable}
 use Rattle.recovery.specs.Choice.{chosen, chosen_all, goes_by}
 use Rattle.recovery.proofs.LastCopies.{BlockCopies}
 
--- one more copy in front
+-- a copy in front, chosen or not, stays in front
 one-more : (goes : Bool) (c : ℕ × List ℕ) (zs xs ys : BlockCopies) → zs ≡ xs ++ ys → (if goes then c ∷ zs else zs) ≡ (if goes then c ∷ xs else xs) ++ ys
 one-more true c zs xs ys same = ap (λ (l : BlockCopies). c ∷ l) same
 one-more false c zs xs ys same = same
 
--- the choice of joined copies
+-- the choice of joined copies is joined
 pub chosen-append : (revokes places : BlockTable) (tid place : ℕ) (xs ys : BlockCopies) →
     chosen revokes places tid place (xs ++ ys) ≡ chosen revokes places tid place xs ++ chosen revokes places tid (place + length xs) ys
 chosen-append revokes places tid place [] ys = ap (λ (p : ℕ). chosen revokes places tid p ys) {x = place} {y = place + 0} (omega arith)
@@ -29,7 +29,7 @@ chosen-append revokes places tid place (x ∷ xs) ys =
     (chosen-append revokes places tid (suc place) xs ys
     ∙ ap (λ (p : ℕ). chosen revokes places tid (suc place) xs ++ chosen revokes places tid p ys) next)
 
--- the choice of joined texts
+-- the choice of joined texts is joined
 pub chosen_all-append : (revokes places : BlockTable) (tid place : ℕ) (xs ys : List Text) →
     chosen_all revokes places tid place (xs ++ ys)
     ≡ chosen_all revokes places tid place xs ++ chosen_all revokes places (tid + length xs) (place + length (copies_of xs)) ys
@@ -50,7 +50,7 @@ chosen_all-append revokes places tid place (t ∷ xs) ys =
     (append_assoc own (chosen_all revokes places (suc tid) behind xs)
     (chosen_all revokes places (tid + suc (length xs)) (place + length (text_copies t ++ copies_of xs)) ys))
 
--- the choice of texts and one more
+-- one more text adds its choice
 pub chosen_all-push : (revokes places : BlockTable) (tid place : ℕ) (texts : List Text) (t : Text) →
     chosen_all revokes places tid place (texts ++ t ∷ [])
     ≡ chosen_all revokes places tid place texts ++ chosen revokes places (tid + length texts) (place + length (copies_of texts)) (text_copies t)
@@ -59,7 +59,7 @@ chosen_all-push revokes places tid place texts t =
     ∙ ap (λ (x : BlockCopies). chosen_all revokes places tid place texts ++ x)
     (append-nil (chosen revokes places (tid + length texts) (place + length (copies_of texts)) (text_copies t)))
 
--- the choice of a list's first texts and the next
+-- so does the next text of a list
 pub chosen_all-more : (revokes places : BlockTable) (tid place i : ℕ) (texts : List Text) (t : Text) → i < length texts → t ≡ get_or texts i t →
     chosen_all revokes places tid place (take (i + 1) texts)
     ≡ chosen_all revokes places tid place (take i texts) ++ chosen revokes places (tid + i) (place + length (copies_of (take i texts))) (text_copies t)
@@ -70,12 +70,12 @@ chosen_all-more revokes places tid place i texts t below read =
     ∙ ap
     (λ (n : ℕ). chosen_all revokes places tid place (take i texts) ++ chosen revokes places n (place + length (copies_of (take i texts))) (text_copies t)) count
 
--- the copies of pieces and one more
+-- one more piece adds its copies
 pub pieces-push : (pieces : List Piece) (piece : Piece) → flat_map piece_copies (pieces ++ piece ∷ []) ≡ flat_map piece_copies pieces ++ piece_copies piece
 pieces-push pieces piece =
     flat_map-append piece_copies pieces (piece ∷ []) ∙ ap (λ (x : BlockCopies). flat_map piece_copies pieces ++ x) (append-nil (piece_copies piece))
 
--- the choice of pieces and one more
+-- and its choice
 pub chosen-push : (revokes places : BlockTable) (tid place : ℕ) (pieces : List Piece) (piece : Piece) →
     chosen revokes places tid place (flat_map piece_copies (pieces ++ piece ∷ []))
     ≡ chosen revokes places tid place (flat_map piece_copies pieces)
@@ -84,7 +84,7 @@ chosen-push revokes places tid place pieces piece =
     ap (chosen revokes places tid place) (pieces-push pieces piece)
     ∙ chosen-append revokes places tid place (flat_map piece_copies pieces) (piece_copies piece)
 
--- the choice of a list's first pieces and the next
+-- so does the next piece of a list
 pub chosen-more : (revokes places : BlockTable) (tid place i : ℕ) (pieces : List Piece) (piece : Piece) → i < length pieces → piece ≡ get_or pieces i piece →
     chosen revokes places tid place (flat_map piece_copies (take (i + 1) pieces))
     ≡ chosen revokes places tid place (flat_map piece_copies (take i pieces))

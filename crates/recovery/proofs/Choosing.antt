@@ -66,7 +66,7 @@ goes-home revokes places tid place b = (to, from)
           | inr uncovered ↦ rw (newest, uncovered) refl
         ]
 
--- else it doesn't
+-- else it stays
 goes-not : (revokes places : BlockTable) (tid place b : ℕ) → (((get places b ≡ Some place) × (Covers revokes b tid → ⊥)) → ⊥) →
     goes_by revokes places tid place b ≡ false
 goes-not revokes places tid place b none =
@@ -179,7 +179,7 @@ goes-last first before ts t front behind c split =
           ∙ sym (ap not none)
     ]
 
--- one copy is chosen or left out
+-- one copy is chosen, or left out
 one-chosen : (goes any : Bool) (c : ℕ × List ℕ) (xs ys zs : BlockCopies) → goes ≡ not any → xs ++ ys ≡ zs →
     (if goes then c ∷ xs else xs) ++ ys ≡ (if any then zs else (c.0, c.1) ∷ zs)
 one-chosen true true c xs ys zs is same = absurd (true≢false is)
@@ -203,7 +203,7 @@ chosen-last revokes places tid place (c ∷ cs) tail rule =
     one-chosen (goes_by revokes places tid place c.0) (list_any (is_of c.0) (map copied cs ++ tail)) c (chosen revokes places tid (suc place) cs)
     (last_copies tail) (last_copies (map copied cs ++ tail)) here rest
 
--- so it is for one text
+-- one text's choice, then the later texts' home copies, are all home copies
 text-chosen : (first : ℕ) (before ts : List Text) (t : Text) →
     chosen (revokes_of first (before ++ t ∷ ts)) (places_of (before ++ t ∷ ts)) (first + length before) (length (copies_of before)) (text_copies t)
     ++ home_copies ts
@@ -220,15 +220,15 @@ text-chosen first before ts t =
     ∙ ap (λ (changes : List Change). not (list_any (is_of c.0) changes)) (append_assoc (map copied behind) (map Revoked (text_revokes t)) (chain_changes ts)))
     ∙ ap last_copies (sym (append_assoc (map copied (text_copies t)) (map Revoked (text_revokes t)) (chain_changes ts)))
 
--- the copies of texts and one more
+-- one more text adds its copies
 pub copies-more : (texts : List Text) (t : Text) → copies_of (texts ++ t ∷ []) ≡ copies_of texts ++ text_copies t
 copies-more texts t = flat_map-append text_copies texts (t ∷ []) ∙ ap (λ (x : BlockCopies). copies_of texts ++ x) (append-nil (text_copies t))
 
--- how many they are
+-- and their count
 pub copies-count : (texts : List Text) (t : Text) → length (copies_of (texts ++ t ∷ [])) ≡ length (copies_of texts) + length (text_copies t)
 copies-count texts t = ap length (copies-more texts t) ∙ length-append (copies_of texts) (text_copies t)
 
--- so it is for the texts from one on
+-- the choice of all texts from one on is their home copies
 pub suffix-chosen : (first : ℕ) (before ts texts : List Text) (tid place : ℕ) → texts ≡ before ++ ts → tid ≡ first + length before →
     place ≡ length (copies_of before) → chosen_all (revokes_of first texts) (places_of texts) tid place ts ≡ home_copies ts
 suffix-chosen first before [] texts tid place is number at = refl

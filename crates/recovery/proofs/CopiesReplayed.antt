@@ -47,13 +47,13 @@ behind-more c cs old disk b is =
           ]
     ]
 
--- home after writes of any copies
+-- so it is for writes of any copies
 pub behind-writes : (copies : BlockCopies) (disk : Disk) (b : ℕ) → IsBehindWrites copies disk (disk_after (writes_home copies) disk) b
 behind-writes [] disk b = record { reads = inr (λ v among. contains-none (b, v) among, refl) }
 behind-writes (c ∷ cs) disk b =
     behind-more c cs disk (disk_after (writes_home cs) (written disk Home c.0 c.1)) b (behind-writes cs (written disk Home c.0 c.1) b)
 
--- they leave the log
+-- writes home leave the log
 pub copies-log : (copies : BlockCopies) (disk : Disk) (n : ℕ) → disk_after (writes_home copies) disk Log n ≡ disk Log n
 copies-log [] disk n = refl
 copies-log (c ∷ cs) disk n = copies-log cs (written disk Home c.0 c.1) n

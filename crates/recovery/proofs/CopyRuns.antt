@@ -31,7 +31,7 @@ home_copy p = (p.0.block, unescaped p.0.escaped p.1)
 abbrev pub tagged : List Tag → List (List ℕ) → List (ℕ × List ℕ)
 tagged tags blocks = map (λ p. (p.0.block, unescaped p.0.escaped p.1)) (zip tags blocks)
 
--- joined tags and blocks
+-- joined tags and blocks give joined copies
 tagged-append : (xs ys : List Tag) (bs cs : List (List ℕ)) → length xs ≡ length bs → tagged (xs ++ ys) (bs ++ cs) ≡ tagged xs bs ++ tagged ys cs
 tagged-append [] ys [] cs same = refl
 tagged-append [] ys (b ∷ bs) cs same = absurd (omega arith)
@@ -40,7 +40,7 @@ tagged-append (x ∷ xs) ys (b ∷ bs) cs same =
     let rest : length xs ≡ length bs = omega arith in
     ap (λ (zs : List (ℕ × List ℕ)). (x.block, unescaped x.escaped b) ∷ zs) (tagged-append xs ys bs cs rest)
 
--- how many they are
+-- as many as tags
 tagged-count : (xs : List Tag) (bs : List (List ℕ)) → length xs ≡ length bs → length (tagged xs bs) ≡ length xs
 tagged-count [] [] same = refl
 tagged-count [] (b ∷ bs) same = absurd (omega arith)
@@ -70,7 +70,7 @@ module _ (tables : TablesValue) (tid place : ℕ) (tags : List Tag) (blocks : Li
       (tagged-count (take k tags) (take k blocks) (few ∙ sym many) ∙ few)
 
   module _ (k : ℕ) (tag : Tag) (block : List ℕ) (below : k < length tags) (is : slice_get tags k ≡ Some tag) (stands : slice_get blocks k ≡ Some block) where
-    -- one more copy
+    -- the first k + 1 copies choose those of the first k, then copy k
     chosen-one : chosen_first tables tid place tags blocks (k + 1)
         ≡ chosen_first tables tid place tags blocks k
         ++ chosen tables.revokes tables.copies tid (place + k) ((tag.block, unescaped tag.escaped block) ∷ [])
@@ -85,7 +85,7 @@ module _ (tables : TablesValue) (tid place : ℕ) (tags : List Tag) (blocks : Li
         ∙ ap (λ (n : ℕ). chosen_first tables tid place tags blocks k ++ chosen tables.revokes tables.copies tid (place + n) (tagged (tag ∷ []) (block ∷ [])))
         (tagged-count (take k tags) (take k blocks) (few ∙ sym many) ∙ few)
 
-    -- one more copy that stays
+    -- if copy k stays, no write is due
     pub one-stays : goes_by tables.revokes tables.copies tid (place + k) tag.block ≡ false → (old new : DeviceState) →
         HasMade (writes_home (chosen_first tables tid place tags blocks k)) old new → HasMade (writes_home (chosen_first tables tid place tags blocks (k + 1))) old new
     one-stays stays old new made =
@@ -94,7 +94,7 @@ module _ (tables : TablesValue) (tid place : ℕ) (tags : List Tag) (blocks : Li
         (sym (chosen-one ∙ ap (λ (cs : List (ℕ × List ℕ)). chosen_first tables tid place tags blocks k ++ cs) none ∙ append-nil (chosen_first tables tid place tags blocks k))) made
 
     module _ (goes : goes_by tables.revokes tables.copies tid (place + k) tag.block ≡ true) where
-      -- one more copy that goes home
+      -- if it goes home, one write is due
       one-goes : writes_home (chosen_first tables tid place tags blocks (k + 1))
           ≡ writes_home (chosen_first tables tid place tags blocks k) ++ writes_home ((tag.block, unescaped tag.escaped block) ∷ [])
       one-goes =
@@ -108,7 +108,7 @@ module _ (tables : TablesValue) (tid place : ℕ) (tags : List Tag) (blocks : Li
           subst (λ (calls : List Call). HasMade calls old new) (sym one-goes)
           (made-joins (writes_home (chosen_first tables tid place tags blocks k)) (writes_home ((tag.block, unescaped tag.escaped block) ∷ [])) old mid new made one)
 
-      -- or whose write fails
+      -- which may fail
       pub one-begun : (old mid new : DeviceState) → HasMade (writes_home (chosen_first tables tid place tags blocks k)) old mid →
           HasBegun (writes_home ((tag.block, unescaped tag.escaped block) ∷ [])) mid new → HasBegun (writes_home (chosen_behind tables tid place tags blocks)) old new
       one-begun old mid new made one =

@@ -27,7 +27,7 @@ module _
     (few : count ≤ length all) (below : k < count) (is : slice_get all k ≡ Some tag) (stand : StandAt s (reading old.disk) position count blocks) (place_is : at ≡ position + k)
     (made : HasMade (writes_home (chosen_first tables tid place (take count all) blocks k)) old mid)
   where
-    -- as many tags as blocks
+    -- there are as many tags as blocks
     as-many : length (take count all) ≡ length blocks
     as-many = length-take-le count all few ∙ sym stand.count
 
@@ -49,19 +49,19 @@ module _
     listed : copy_calls s (reading mid.disk) at tag ≡ writes_home ((tag.block, unescaped tag.escaped stored) ∷ [])
     listed = copy-listed s (chosen_first tables tid place (take count all) blocks k) old mid position count k at tag stored blocks place_is made stand stands
 
-    -- a step past a copy that stays
+    -- a step past a copy that stays makes no write
     pub step-stays : goes_by tables.revokes tables.copies tid (place + k) tag.block ≡ false →
         HasMade (writes_home (chosen_first tables tid place (take count all) blocks (k + 1))) old mid
     step-stays stays = one-stays tables tid place (take count all) blocks as-many k tag stored within tagged-so stands stays old mid made
 
-    -- a step over a copy that goes home
+    -- a step over a copy that goes home makes one write
     pub step-made : goes_by tables.revokes tables.copies tid (place + k) tag.block ≡ true → (new : DeviceState) →
         HasMade (copy_calls s (reading mid.disk) at tag) mid new → HasMade (writes_home (chosen_first tables tid place (take count all) blocks (k + 1))) old new
     step-made goes new one =
         one-made tables tid place (take count all) blocks as-many k tag stored within tagged-so stands goes old mid new made
         (subst (λ (calls : List Call). HasMade calls mid new) listed one)
 
-    -- or whose read or write fails
+    -- or fails in it
     pub step-begun : goes_by tables.revokes tables.copies tid (place + k) tag.block ≡ true → (new : DeviceState) →
         HasBegun (copy_calls s (reading mid.disk) at tag) mid new → HasBegun (writes_home (chosen_behind tables tid place (take count all) blocks)) old new
     step-begun goes new one =

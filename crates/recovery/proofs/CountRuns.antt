@@ -28,7 +28,7 @@ use Rattle.recovery.proofs.GatherRuns.{count-tagged, texts_so}
 use Rattle.recovery.proofs.ReplayRuns.{chain-chosen, chosen_so, so-commit, so-piece, so-whole}
 use Rattle.recovery.proofs.UnfinishedTables.{copies-begun, copies-finished, copies-piece_count}
 
--- a list with or without one more element
+-- one more element adds 1, none adds 0
 one-or-none : {X : Type 0} (c : Bool) (x : X) (xs : List X) → length (if c then x ∷ xs else xs) ≡ (if c then 1 else 0) + length xs
 one-or-none true x xs = omega arith
 one-or-none false x xs = omega arith
@@ -48,7 +48,7 @@ count-behind tables tid place (tag ∷ tags) (b ∷ blocks) same =
 abbrev one_at : TablesValue → ℕ → Tag → ℕ → ℕ
 one_at tables tid tag place = if goes_by tables.revokes tables.copies tid place tag.block then 1 else 0
 
--- one more tag is counted
+-- one more tag adds its copy
 count-push : (tables : TablesValue) (tid place : ℕ) (tags : List Tag) (tag : Tag) →
     count_chosen tables tid place (tags ++ tag ∷ []) ≡ count_chosen tables tid place tags + one_at tables tid tag (place + length tags)
 count-push tables tid place [] tag =
@@ -62,7 +62,7 @@ count-push tables tid place (t ∷ tags) tag =
     let same : one_at tables tid tag (suc place + length tags) ≡ one_at tables tid tag (place + length (t ∷ tags)) = ap (one_at tables tid tag) at in
     omega arith
 
--- tag k of a list is counted
+-- so does tag k of a list
 pub count-more : (tables : TablesValue) (tid place k : ℕ) (tags : List Tag) (tag : Tag) → k < length tags → tag ≡ get_or tags k tag →
     count_chosen tables tid place (take (k + 1) tags)
     ≡ count_chosen tables tid place (take k tags) + (if goes_by tables.revokes tables.copies tid (place + k) tag.block then 1 else 0)
@@ -80,7 +80,7 @@ pub record Counts (s : Super) (limit : ℕ) (image : Image) (cursor : Cursor) (t
   pub place_is : place ≡ length (copies_of (texts_so texts pieces))
   pub count_is : count ≡ length (chosen_so tables s.s_sequence texts pieces)
 
--- at first none
+-- at first none do
 pub counts-none : (s : Super) (limit : ℕ) (image : Image) (transactions : ℕ) (tables : TablesValue) →
     Counts s limit image (record { position = 0; transactions = 0 }) transactions 0 0 tables
 counts-none s limit image transactions tables = record {
@@ -99,7 +99,7 @@ module _ (s : Super) (limit : ℕ) (image : Image) (from to : Cursor) (transacti
     counted : from.transactions ≡ length so.texts
     counted = passed-count s limit image so.texts so.pieces from so.passed
 
-    -- after one more revoke block
+    -- a revoke block adds none
     counts-revokes : (numbers : List ℕ) → from.transactions < transactions → to.transactions ≡ from.transactions →
         RevokesPassed s limit image so.texts so.pieces numbers to → Counts s limit image to transactions place count tables
     counts-revokes numbers below same passed = record {
@@ -113,7 +113,7 @@ module _ (s : Super) (limit : ℕ) (image : Image) (from to : Cursor) (transacti
           ∙ ap length (sym (so-piece tables s.s_sequence so.texts so.pieces (Revokes passed.block numbers) ∙ append-nil (chosen_so tables s.s_sequence so.texts so.pieces)));
     }
 
-    -- after a commit block
+    -- a commit block adds none
     counts-commit : CommitPassed s limit image so.texts so.pieces to → Counts s limit image to transactions place count tables
     counts-commit passed =
         let done : Text = record { pieces = so.pieces; commit = passed.commit } in
@@ -126,7 +126,7 @@ module _ (s : Super) (limit : ℕ) (image : Image) (from to : Cursor) (transacti
           count_is = so.count_is ∙ ap length (sym (so-commit tables s.s_sequence so.texts so.pieces passed.commit));
         }
 
-    -- after a descriptor and its copies
+    -- a descriptor adds its copies that go home
     pub counts-copies : (tags : List Tag) (n tid more : ℕ) → n ≡ length tags → tid ≡ s.s_sequence + from.transactions → from.transactions < transactions →
         to.transactions ≡ from.transactions → CopiesPassed s limit image so.texts so.pieces tags from.position n to → more ≡ count_chosen tables tid place tags →
         Counts s limit image to transactions (place + n) (count + more) tables
@@ -152,7 +152,7 @@ module _ (s : Super) (limit : ℕ) (image : Image) (from to : Cursor) (transacti
         }
 
     module _ (chain : List Text) (are : IsChainOf s limit image chain) (all : transactions ≡ length chain) where
-      -- at the end all are counted
+      -- at the end the count is the chain's
       pub counts-all : tables ≡ tables_of s.s_sequence chain → from.transactions ≡ transactions → count ≡ length (home_copies chain)
       counts-all tables_are end =
           let texts : chain ≡ so.texts =
@@ -177,7 +177,7 @@ module _ (s : Super) (limit : ℕ) (image : Image) (from to : Cursor) (transacti
       counts-nowhere f found below (inl is) leads = counts-later below (subst (LeadsTo s limit image so.texts so.pieces f from to) is leads).0
       counts-nowhere f found below (inr is) leads = counts-later below (subst (LeadsTo s limit image so.texts so.pieces f from to) is leads).chain
 
-    -- after a revoke block or a commit block
+    -- a revoke or commit block keeps the count
     pub counts-on : (f : FinderValue) (found : Found) → ((n : ℕ) × (found ≡ RevokeBlock n)) ⊎ (found ≡ CommitBlock) → to ≡ cursor_behind from found →
         from.transactions < transactions → LeadsTo s limit image so.texts so.pieces f from to found → Counts s limit image to transactions place count tables
     counts-on f found (inl (n, is)) moved below leads =

@@ -37,7 +37,7 @@ pub taken : (shape : Shape) (image : Image) (superblock : List ℕ) (fields : Su
 taken shape image superblock fields well read =
     record { size = ap length (sym read) ∙ well.size; accepted = ap (super_refusal shape) (sym read) ∙ well.tested }
 
--- an image with a chain
+-- a log that is not clean has a chain in its image
 chain-image : (shape : Shape) (image : Image) (texts : List Text) → IsLayout shape image → (super_of image).s_start ≢ 0 →
     AreTextsOf (super_of image) shape.home_blocks image texts → HasChain shape image texts
 chain-image shape image texts is started are = record {
@@ -46,7 +46,7 @@ chain-image shape image texts is started are = record {
   undamaged = λ k damaged. are.undamaged k damaged.damaged;
 }
 
--- the limit of an image
+-- the image's limit follows from its transactions
 pub limit-image : (shape : Shape) (image : Image) (transactions : ℕ) → IsLayout shape image → HasTransactions (super_of image) shape.home_blocks image transactions →
     HasLimit shape image ((super_of image).s_sequence + transactions)
 limit-image shape image transactions is has =

@@ -39,7 +39,7 @@ pub record Gathers (s : Super) (limit : ℕ) (image : Image) (cursor : Cursor) (
   pub tables_are : tables ≡ tables_of s.s_sequence (texts_so texts pieces)
   pub count : copies ≡ length (copies_of (texts_so texts pieces))
 
--- at first empty
+-- at first the tables are empty
 pub gathers-none : (s : Super) (limit : ℕ) (image : Image) (transactions : ℕ) → Gathers s limit image (record { position = 0; transactions = 0 }) transactions 0 empty_tables
 gathers-none s limit image transactions = record {
   texts = [];
@@ -77,7 +77,7 @@ module _ (s : Super) (limit : ℕ) (image : Image) (old new : Cursor) (transacti
   counted : old.transactions ≡ length so.texts
   counted = passed-count s limit image so.texts so.pieces old so.passed
 
-  -- after one more revoke block
+  -- a revoke block adds its revokes
   pub gathers-revokes : (numbers : List ℕ) (tid : ℕ) → tid ≡ s.s_sequence + old.transactions → old.transactions < transactions → new.transactions ≡ old.transactions →
       RevokesPassed s limit image so.texts so.pieces numbers new → Gathers s limit image new transactions copies (with_revokes tables tid numbers)
   gathers-revokes numbers tid number below stays passed = record {
@@ -94,7 +94,7 @@ module _ (s : Super) (limit : ℕ) (image : Image) (old new : Cursor) (transacti
     count = so.count ∙ (let more = copies-piece_count so.texts so.pieces (Revokes passed.block numbers) in omega arith);
   }
 
-  -- after one more descriptor with its copies
+  -- a descriptor adds its copies
   pub gathers-copies : (tags : List Tag) (n : ℕ) → n ≡ length tags → old.transactions < transactions → new.transactions ≡ old.transactions →
       CopiesPassed s limit image so.texts so.pieces tags old.position n new → Gathers s limit image new transactions (copies + n) (with_copies tables copies tags)
   gathers-copies tags n size below stays passed =
@@ -118,7 +118,7 @@ module _ (s : Super) (limit : ℕ) (image : Image) (old new : Cursor) (transacti
             omega arith;
       }
 
-  -- after a commit block
+  -- a commit block adds nothing
   pub gathers-commit : CommitPassed s limit image so.texts so.pieces new → Gathers s limit image new transactions copies tables
   gathers-commit passed =
       let done : Text = record { pieces = so.pieces; commit = passed.commit } in
@@ -136,7 +136,7 @@ module _ (s : Super) (limit : ℕ) (image : Image) (old new : Cursor) (transacti
       }
 
   module _ (chain : List Text) (are : IsChainOf s limit image chain) (all : transactions ≡ length chain) where
-    -- at the end all are gathered
+    -- at the end the tables are the chain's
     pub gathers-all : old.transactions ≡ transactions → tables ≡ tables_of s.s_sequence chain
     gathers-all end =
         let texts : chain ≡ so.texts =

@@ -60,7 +60,7 @@ has-revoked b changes among = any-has b changes (Revoked b) among (own-block b)
 pub none-copied : (b : ℕ) (v : List ℕ) (changes : List Change) → list_any (is_of b) changes ≡ false → Contains changes (Copied b v) → ⊥
 none-copied b v changes none among = true≢false (sym (has-copied b v changes among) ∙ none)
 
--- nor any revoke
+-- and no revoke is
 pub none-revoked : (b : ℕ) (changes : List Change) → list_any (is_of b) changes ≡ false → Contains changes (Revoked b) → ⊥
 none-revoked b changes none among = true≢false (sym (has-revoked b changes among) ∙ none)
 
@@ -91,7 +91,7 @@ last-behind (Copied b v) xs p among =
     ]
 last-behind (Revoked b) xs p among = among
 
--- and after many changes
+-- so they are after many changes
 pub last-append : (xs ys : List Change) (p : ℕ × List ℕ) → Contains (last_copies ys) p → Contains (last_copies (xs ++ ys)) p
 last-append [] ys p among = among
 last-append (x ∷ xs) ys p among = last-behind x (xs ++ ys) p (last-append xs ys p among)
@@ -143,7 +143,7 @@ last-here c cs b v same none = record { stands = ap Some same; last = last }
     last zero other there = omega arith
     last (suc m) other there = absurd (none-copied b other (map copied cs) none (mapped-has copied cs (b, other) (contains-at cs m (b, other) there)))
 
--- a last copy after the first
+-- so it is with a copy in front
 last-there : (c : ℕ × List ℕ) (cs : BlockCopies) (b : ℕ) (v : List ℕ) (k : ℕ) → IsLastAt b cs v k → IsLastAt b (c ∷ cs) v (suc k)
 last-there c cs b v k is = record { stands = is.stands; last = last }
   where

@@ -12,12 +12,12 @@ use Rattle.journal_world.specs.Call.IsAfterFault.{HandedOver, Whole}
 use Rattle.recovery.specs.Calls.{HasBegun, HasMade, IsInterrupted, disk_after, past_after}
 use Rattle.recovery.specs.Calls.IsInterrupted.{Before, Within}
 
--- the disk after joined calls
+-- the disk after joined calls, part by part
 pub disk_after-append : (xs ys : List Call) (disk : Disk) → disk_after (xs ++ ys) disk ≡ disk_after ys (disk_after xs disk)
 disk_after-append [] ys disk = refl
 disk_after-append (x ∷ xs) ys disk = disk_after-append xs ys (after_success x disk)
 
--- and the disks before each of them
+-- so are the disks before each of them
 pub past_after-append : (xs ys : List Call) (disk : Disk) (past : List Disk) →
     past_after (xs ++ ys) disk past ≡ past_after ys (disk_after xs disk) (past_after xs disk past)
 past_after-append [] ys disk past = refl

@@ -63,7 +63,7 @@ making-none shape maxlen uuid is_wide old new stays =
     each-stays (IsMakingMoment shape maxlen uuid is_wide old.disk) old new stays
     (record { home = λ b. refl; behind = λ n from. inl refl; zeros = λ n above below v one. inl one; superblock = λ v one. inl one })
 
--- one block becomes zeros, or may
+-- a block may become zeros
 zeroing-cell : (zeros : List ℕ) (maxlen n : ℕ) (old disk : Disk) (cell : Cell) → 0 < n → n < maxlen → IsZeroingMoment zeros maxlen old disk →
     HoldsOrOld zeros (disk Log n) cell → IsZeroingMoment zeros maxlen old (with_cell disk Log n cell)
 zeroing-cell zeros maxlen n old disk cell above below is holds = record {

@@ -9,12 +9,12 @@ use Rattle.block_tables.specs.Copies.{placed_all}
 use Rattle.block_tables.specs.Revokes.{BlockTable, noted, noted_all, notes_of}
 use Rattle.recovery.specs.Gather.{tag_notes}
 
--- notes of revokes and one more
+-- one more revoke is noted last
 noted-more : (table : BlockTable) (ns : List (ℕ × ℕ)) (b t : ℕ) → noted_all table (ns ++ (b, t) ∷ []) ≡ noted (noted_all table ns) b t
 noted-more table [] b t = refl
 noted-more table (n ∷ ns) b t = noted-more (noted table n.0 n.1) ns b t
 
--- notes of copies and one more
+-- so it is for notes of copies
 placed-more : (table : BlockTable) (ns : List (ℕ × ℕ)) (b p : ℕ) → placed_all table (ns ++ (b, p) ∷ []) ≡ insert (placed_all table ns) b p
 placed-more table [] b p = refl
 placed-more table (n ∷ ns) b p = placed-more (insert table n.0 n.1) ns b p
@@ -26,7 +26,7 @@ revokes-more old table new t numbers i n below is so more =
     more ∙ ap (λ (x : BlockTable). noted x n t) so ∙ sym (noted-more old (notes_of t (take i numbers)) n t)
     ∙ ap (noted_all old) (sym (ap (notes_of t) (take-more_read numbers i n below is) ∙ map-append (λ (b : ℕ). (b, t)) (take i numbers) (n ∷ [])))
 
--- the notes of tags and one more
+-- one more tag is noted last
 tags-more : (p : ℕ) (tags : List Tag) (tag : Tag) → tag_notes p (tags ++ tag ∷ []) ≡ tag_notes p tags ++ (tag.block, p + length tags) ∷ []
 tags-more p [] tag = ap (λ (n : ℕ). (tag.block, n) ∷ []) (omega arith)
 tags-more p (t ∷ tags) tag =

@@ -65,12 +65,12 @@ ending_calls found = Flush Home ∷ Write Log 0 (clean_superblock found) ∷ Flu
 pub calls-clean : (found : Found) → (super_of found.image).s_start ≡ 0 → opening_calls found ≡ Flush Log ∷ []
 calls-clean found clean = let test : ((super_of found.image).s_start == 0) ≡ true = grind (arith, nat_tests) in rw test refl
 
--- and of any other
+-- the calls of an opening of any other log
 pub calls-started : (found : Found) → (super_of found.image).s_start ≢ 0 →
     opening_calls found ≡ Flush Log ∷ writes_home (home_copies found.texts) ++ ending_calls found
 calls-started found started = let test : ((super_of found.image).s_start == 0) ≡ false = grind (arith, nat_tests) in rw test refl
 
--- newest copies go home
+-- writes of newest copies make a path
 copies-path : (shape : Shape) (found : Found) (cs : BlockCopies) (calls : List Call) (disk : Disk) →
     ((b : ℕ) (v : List ℕ) → Contains cs (b, v) → IsNewest found.texts b v) →
     IsPath shape found (disk_after (writes_home cs) disk) Copies calls → IsPath shape found disk Copies (writes_home cs ++ calls)
@@ -113,7 +113,7 @@ opening-path shape found old is =
       | inr started ↦ subst (IsPath shape found old LogFlush) (sym (calls-started found started)) (started-path shape found old is started)
     ]
 
--- the calls left after some of an opening's
+-- after some of an opening's calls, the others make a path
 pub opening-left : (shape : Shape) (found : Found) (old : Disk) (done due : List Call) → IsFoundOn shape found old → opening_calls found ≡ done ++ due →
     (stage : OpeningStage) × Reached shape found old stage (disk_after done old) × IsPath shape found (disk_after done old) stage due
 opening-left shape found old done due is split =

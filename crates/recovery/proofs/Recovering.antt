@@ -125,7 +125,7 @@ tail-named shape superblock fields transactions next is number =
 -- a log that was examined on this device
 module _ (s : DeviceState) (superblock : List ℕ) (fields : Super) (transactions : ℕ) (tables : TablesValue) (found : Found)
     (on : IsExaminedOn s.shape s.disk superblock fields transactions tables found) where
-  -- the limit of its numbers
+  -- its limit is the number after its transactions
   examined-limit : found.limit ≡ fields.s_sequence + transactions
   examined-limit =
       let limit : found.limit ≡ (super_of found.image).s_sequence + length found.texts = found-limit s.shape found.image found.texts found.limit on.is.good.has in
@@ -133,15 +133,15 @@ module _ (s : DeviceState) (superblock : List ℕ) (fields : Super) (transaction
       let count : transactions ≡ length found.texts = on.count in
       omega arith
 
-  -- the next number
+  -- the next number is the one after the limit
   pub examined-next : (next : ℕ) → next ≡ fields.s_sequence + transactions + 1 → next ≡ next_of found
   examined-next next number = let limit = examined-limit in omega arith
 
-  -- its start
+  -- its start is the image's
   examined-start : fields.s_start ≡ (super_of found.image).s_start
   examined-start = ap (λ (f : Super). f.s_start) on.fields_are
 
-  -- the report of an opening
+  -- the report of an opening is true
   pub examined-tells : (clean : Bool) (ends_at : ℕ) → clean ≡ (fields.s_start == 0) → ends_at ≡ fields.s_sequence + transactions →
       Tells s.shape (reading s.disk) clean ends_at transactions
   examined-tells clean ends_at reported ends =
@@ -181,13 +181,13 @@ module _ (s : DeviceState) (superblock : List ℕ) (fields : Super) (transaction
       calls-started found (λ start. started (examined-start ∙ start))
       ∙ ap (λ (block : List ℕ). Flush Log ∷ writes_home (home_copies found.texts) ++ cleaning_calls block) (sym tail)
 
-  -- the device failed after some of them
+  -- a failure after some of these calls breaks the opening
   begun-broken : (next : ℕ) (new : DeviceState) → fields.s_start ≢ 0 → next ≡ fields.s_sequence + transactions + 1 →
       HasBegun ((Flush Log ∷ []) ++ (writes_home (home_copies found.texts) ++ cleaning_calls (with_tail superblock next 0))) s new → IsBroken s new
   begun-broken next new started number begun =
       Writing found on.is (subst (λ (calls : List Call). HasBegun calls s new) (sym (started-calls next started number)) begun)
 
-  -- the device failed during the copies
+  -- so does a failure during the copies
   pub copies-broken : (t u w : DeviceState) (next : ℕ) → fields.s_start ≢ 0 → next ≡ fields.s_sequence + transactions + 1 → Stays s t →
       Moves t u (flushed t.disk Log) → HasBegun (writes_home (home_copies found.texts)) u w → IsBroken s w
   copies-broken t u w next started number stays moves begun =
@@ -196,7 +196,7 @@ module _ (s : DeviceState) (superblock : List ℕ) (fields : Super) (transaction
       begun-broken next w started number
       (made-begun (Flush Log ∷ []) (copies ++ cleaning) s u w (log-flushed s t u stays moves) (begun-front copies cleaning u w begun))
 
-  -- it failed after the copies, before the log was clean
+  -- so does one before the log is clean
   pub cleaning-broken : (t u w x : DeviceState) (next : ℕ) → fields.s_start ≢ 0 → next ≡ fields.s_sequence + transactions + 1 → Stays s t →
       Moves t u (flushed t.disk Log) → HasMade (writes_home (home_copies found.texts)) u w →
       HasBegun (cleaning_calls (with_tail superblock next 0)) w x → IsBroken s x
@@ -206,7 +206,7 @@ module _ (s : DeviceState) (superblock : List ℕ) (fields : Super) (transaction
       begun-broken next x started number
       (made-begun (Flush Log ∷ []) (copies ++ cleaning) s u x (log-flushed s t u stays moves) (made-begun copies cleaning u w x made begun))
 
-  -- the log is replayed and clean
+  -- if all succeed, the log is replayed and clean
   pub started-done : (t u w x : DeviceState) (next : ℕ) → fields.s_start ≢ 0 → next ≡ fields.s_sequence + transactions + 1 → Stays s t →
       Moves t u (flushed t.disk Log) → HasMade (writes_home (home_copies found.texts)) u w →
       HasMade (cleaning_calls (with_tail superblock next 0)) w x → IsDoneWith s x (with_tail superblock next 0) next

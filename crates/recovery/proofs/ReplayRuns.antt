@@ -45,14 +45,14 @@ abbrev count_so : List Text → List Piece → ℕ
 count_so texts pieces = length (copies_of (texts_so texts pieces))
 
 module _ (tables : TablesValue) (first : ℕ) where
-  -- the texts' copies, then the pieces'
+  -- the choice of texts, then of the pieces after them
   so-split : (texts : List Text) (pieces : List Piece) →
       chosen_so tables first texts pieces
       ≡ chosen_all tables.revokes tables.copies first 0 texts
       ++ chosen tables.revokes tables.copies (first + length texts) (0 + length (copies_of texts)) (text_copies (unfinished pieces))
   so-split texts pieces = chosen_all-push tables.revokes tables.copies first 0 texts (unfinished pieces)
 
-  -- one more piece
+  -- one more piece adds its choice
   pub so-piece : (texts : List Text) (pieces : List Piece) (piece : Piece) →
       chosen_so tables first texts (pieces ++ piece ∷ [])
       ≡ chosen_so tables first texts pieces
@@ -68,7 +68,7 @@ module _ (tables : TablesValue) (first : ℕ) where
       (chosen tables.revokes tables.copies (first + length texts) ((0 + length (copies_of texts)) + length (text_copies (unfinished pieces))) (piece_copies piece)))
       ∙ ap₂ (λ (xs : List (ℕ × List ℕ)) (n : ℕ). xs ++ chosen tables.revokes tables.copies (first + length texts) n (piece_copies piece)) (sym (so-split texts pieces)) at
 
-  -- the end of a transaction
+  -- the end of a transaction adds none
   pub so-commit : (texts : List Text) (pieces : List Piece) (commit : List ℕ) →
       (let done : Text = record { pieces = pieces; commit = commit } in chosen_so tables first (texts ++ done ∷ []) [] ≡ chosen_so tables first texts pieces)
   so-commit texts pieces commit =
@@ -76,11 +76,11 @@ module _ (tables : TablesValue) (first : ℕ) where
       so-split (texts ++ done ∷ []) [] ∙ append-nil (chosen_all tables.revokes tables.copies first 0 (texts ++ done ∷ []))
       ∙ chosen_all-push tables.revokes tables.copies first 0 texts done ∙ sym (so-split texts pieces)
 
-  -- no pieces
+  -- without pieces it is the texts' choice
   pub so-whole : (texts : List Text) → chosen_so tables first texts [] ≡ chosen_all tables.revokes tables.copies first 0 texts
   so-whole texts = so-split texts [] ∙ append-nil (chosen_all tables.revokes tables.copies first 0 texts)
 
-  -- texts and pieces at the beginning of a chain
+  -- texts and pieces that begin a chain begin its choice
   so-beginning : (texts : List Text) (pieces : List Piece) (chain : List Text) → IsBeginning texts pieces chain →
       (rest : List (ℕ × List ℕ)) × (chosen_all tables.revokes tables.copies first 0 chain ≡ chosen_so tables first texts pieces ++ rest)
   so-beginning texts pieces chain is =
@@ -125,7 +125,7 @@ pub record Replays (s : Super) (limit : ℕ) (image : Image) (cursor : Cursor) (
   pub count : place ≡ length (copies_of (texts_so texts pieces))
   pub made : HasMade (writes_home (chosen_so tables s.s_sequence texts pieces)) old new
 
--- at first nothing
+-- at first nothing was written
 pub replays-none : (s : Super) (limit : ℕ) (image : Image) (transactions : ℕ) (tables : TablesValue) (old : DeviceState) →
     Replays s limit image (record { position = 0; transactions = 0 }) transactions 0 tables old old
 replays-none s limit image transactions tables old = record {
@@ -145,7 +145,7 @@ module _
     counted : from.transactions ≡ length so.texts
     counted = passed-count s limit image so.texts so.pieces from so.passed
 
-    -- after one more revoke block
+    -- a revoke block adds no write
     pub replays-revokes : (numbers : List ℕ) → from.transactions < transactions → to.transactions ≡ from.transactions → (new : DeviceState) → Stays mid new →
         RevokesPassed s limit image so.texts so.pieces numbers to → Replays s limit image to transactions place tables old new
     replays-revokes numbers below same new stays passed = record {
@@ -160,7 +160,7 @@ module _
           (made-stays (writes_home (chosen_so tables s.s_sequence so.texts so.pieces)) old mid new so.made stays);
     }
 
-    -- after a commit block
+    -- nor does a commit block
     pub replays-commit : (new : DeviceState) → Stays mid new → CommitPassed s limit image so.texts so.pieces to → Replays s limit image to transactions place tables old new
     replays-commit new stays passed =
         let done : Text = record { pieces = so.pieces; commit = passed.commit } in
@@ -176,7 +176,7 @@ module _
         }
 
     module _ (tags : List Tag) (n tid : ℕ) (size : n ≡ length tags) (number : tid ≡ s.s_sequence + from.transactions) (passed : CopiesPassed s limit image so.texts so.pieces tags from.position n to) where
-      -- after a descriptor and its copies
+      -- a descriptor adds the writes of its chosen copies
       more-chosen : chosen_so tables s.s_sequence so.texts (so.pieces ++ Copies passed.block tags passed.copies ∷ [])
           ≡ chosen_so tables s.s_sequence so.texts so.pieces ++ chosen_behind tables tid place tags passed.copies
       more-chosen =
@@ -206,7 +206,7 @@ module _
             (made-stays (writes_home (chosen_so tables s.s_sequence so.texts so.pieces)) old mid next so.made stays) made);
       }
 
-      -- or a failure among these copies
+      -- a failure among them leaves writes begun
       pub replays-begun : (chain : List Text) → IsChainOf s limit image chain → transactions ≡ length chain → tables ≡ tables_of s.s_sequence chain →
           from.transactions < transactions → to.transactions ≡ from.transactions → (next new : DeviceState) → Stays mid next →
           HasBegun (writes_home (chosen_behind tables tid place tags passed.copies)) next new → HasBegun (writes_home (home_copies chain)) old new
@@ -229,7 +229,7 @@ module _
         omega arith
 
     module _ (chain : List Text) (are : IsChainOf s limit image chain) (all : transactions ≡ length chain) (tables_are : tables ≡ tables_of s.s_sequence chain) where
-      -- or a read failed
+      -- so does a failed read
       pub replays-unread : from.transactions < transactions → (new : DeviceState) → Stays mid new → HasBegun (writes_home (home_copies chain)) old new
       replays-unread below new stays =
           let is = begins-chain (layout_of s) limit s.s_sequence (omega arith) (lap (ring_of s) image s.s_start) so.texts so.pieces from.transactions from.position so.passed
@@ -239,7 +239,7 @@ module _
           (begun-made (writes_home (chosen_so tables s.s_sequence so.texts so.pieces)) old new
           (made-stays (writes_home (chosen_so tables s.s_sequence so.texts so.pieces)) old mid new so.made stays))
 
-      -- at the end all are home
+      -- at the end all copies are home
       pub replays-all : from.transactions ≡ transactions → HasMade (writes_home (home_copies chain)) old mid
       replays-all end =
           let texts : chain ≡ so.texts =
@@ -271,7 +271,7 @@ replay-stand s limit from transactions place tables old mid next position n copi
 module _ (s : Super) (limit : ℕ) (image : Image) (from to : Cursor) (f : FinderValue) (found : Found) (transactions place : ℕ) (tables : TablesValue) (old mid : DeviceState)
     (so : Replays s limit image from transactions place tables old mid) (leads : LeadsTo s limit image so.texts so.pieces f from to found)
   where
-    -- after a revoke block or a commit block
+    -- a revoke or commit block leaves the writes
     pub replays-on : ((n : ℕ) × (found ≡ RevokeBlock n)) ⊎ (found ≡ CommitBlock) → to ≡ cursor_behind from found → from.transactions < transactions → (new : DeviceState) → Stays mid new →
         Replays s limit image to transactions place tables old new
     replays-on (inl (n, is)) moved below new stays =

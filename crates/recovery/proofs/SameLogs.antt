@@ -37,7 +37,7 @@ module _ (s : Super) (limit : ℕ) (image other : Image) (same : other Log ≡ i
   laps : lap (ring_of s) other s.s_start ≡ lap (ring_of s) image s.s_start
   laps = lap-same (ring_of s) image other s.s_start same
 
-  -- the same was passed
+  -- equal logs: the same was passed
   pub passed-same : (texts : List Text) (pieces : List Piece) (cursor : Cursor) → IsPassed s limit other texts pieces cursor → IsPassed s limit image texts pieces cursor
   passed-same texts pieces cursor passed =
       subst (λ (blocks : List (List ℕ)). StandBefore (layout_of s) limit s.s_sequence blocks texts pieces cursor.transactions cursor.position) laps passed

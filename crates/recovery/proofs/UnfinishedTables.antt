@@ -19,7 +19,7 @@ use Rattle.recovery.proofs.Choosing.{copies-more}
 use Rattle.recovery.proofs.LastCopies.{BlockCopies}
 use Rattle.recovery.proofs.PlaceNotes.{copy_notes-append, joined-notes, placed-append}
 
--- the revokes of joined texts
+-- joined texts have joined revokes
 revoke_notes-append : (first : ℕ) (xs ys : List Text) → revoke_notes first (xs ++ ys) ≡ revoke_notes first xs ++ revoke_notes (first + length xs) ys
 revoke_notes-append first [] ys = ap (λ (n : ℕ). revoke_notes n ys) {x = first} {y = first + 0} (omega arith)
 revoke_notes-append first (t ∷ xs) ys =
@@ -34,7 +34,7 @@ pub noted-append : (table : BlockTable) (ms ns : List (ℕ × ℕ)) → noted_al
 noted-append table [] ns = refl
 noted-append table (m ∷ ms) ns = noted-append (noted table m.0 m.1) ms ns
 
--- the table of revokes after one more text
+-- one more text adds its revokes to the table
 pub revokes-push : (first : ℕ) (texts : List Text) (t : Text) →
     revokes_of first (texts ++ t ∷ []) ≡ noted_all (revokes_of first texts) (notes_of (first + length texts) (text_revokes t))
 revokes-push first texts t =
@@ -43,17 +43,17 @@ revokes-push first texts t =
     ∙ noted-append empty (revoke_notes first texts) (own ++ [])
     ∙ ap (noted_all (revokes_of first texts)) (append-nil own)
 
--- the table of places after more copies
+-- more copies are placed after the others
 places-joined : (xs ys : BlockCopies) → placed_all empty (copy_notes 0 (xs ++ ys)) ≡ placed_all (placed_all empty (copy_notes 0 xs)) (copy_notes (length xs) ys)
 places-joined xs ys =
     joined-notes empty 0 xs ys
     ∙ ap (λ (p : ℕ). placed_all (placed_all empty (copy_notes 0 xs)) (copy_notes p ys)) {x = 0 + length xs} {y = length xs} (omega arith)
 
--- and after one more text
+-- so are those of one more text
 pub places-push : (texts : List Text) (t : Text) → places_of (texts ++ t ∷ []) ≡ placed_all (places_of texts) (copy_notes (length (copies_of texts)) (text_copies t))
 places-push texts t = ap (λ (x : BlockCopies). placed_all empty (copy_notes 0 x)) (copies-more texts t) ∙ places-joined (copies_of texts) (text_copies t)
 
--- the revokes of pieces and one more
+-- one more piece adds its revokes
 revokes-pieces : (pieces : List Piece) (piece : Piece) → flat_map piece_revokes (pieces ++ piece ∷ []) ≡ flat_map piece_revokes pieces ++ piece_revokes piece
 revokes-pieces pieces piece =
     flat_map-append piece_revokes pieces (piece ∷ []) ∙ ap (λ (x : List ℕ). flat_map piece_revokes pieces ++ x) (append-nil (piece_revokes piece))
@@ -81,13 +81,13 @@ copies-piece texts pieces piece =
     ∙ sym (append_assoc (copies_of texts) (flat_map piece_copies pieces) (piece_copies piece))
     ∙ ap (λ (x : BlockCopies). x ++ piece_copies piece) (sym (copies-more texts (unfinished pieces)))
 
--- their count
+-- and their count
 pub copies-piece_count : (texts : List Text) (pieces : List Piece) (piece : Piece) →
     length (copies_of (texts ++ unfinished (pieces ++ piece ∷ []) ∷ [])) ≡ length (copies_of (texts ++ unfinished pieces ∷ [])) + length (piece_copies piece)
 copies-piece_count texts pieces piece =
     ap length (copies-piece texts pieces piece) ∙ length-append (copies_of (texts ++ unfinished pieces ∷ [])) (piece_copies piece)
 
--- and their places
+-- and places them
 pub places-piece : (texts : List Text) (pieces : List Piece) (piece : Piece) →
     places_of (texts ++ unfinished (pieces ++ piece ∷ []) ∷ [])
     ≡ placed_all (places_of (texts ++ unfinished pieces ∷ [])) (copy_notes (length (copies_of (texts ++ unfinished pieces ∷ []))) (piece_copies piece))
@@ -101,7 +101,7 @@ pub revokes-revokes : (first : ℕ) (texts : List Text) (pieces : List Piece) (b
     ≡ noted_all (revokes_of first (texts ++ unfinished pieces ∷ [])) (notes_of (first + length texts) numbers)
 revokes-revokes first texts pieces block numbers = revokes-piece first texts pieces (Revokes block numbers)
 
--- and no place
+-- and places no copy
 pub places-revokes : (texts : List Text) (pieces : List Piece) (block numbers : List ℕ) →
     places_of (texts ++ unfinished (pieces ++ Revokes block numbers ∷ []) ∷ []) ≡ places_of (texts ++ unfinished pieces ∷ [])
 places-revokes texts pieces block numbers = places-piece texts pieces (Revokes block numbers)
@@ -111,7 +111,7 @@ pub revokes-copies : (first : ℕ) (texts : List Text) (pieces : List Piece) (bl
     revokes_of first (texts ++ unfinished (pieces ++ Copies block tags copies ∷ []) ∷ []) ≡ revokes_of first (texts ++ unfinished pieces ∷ [])
 revokes-copies first texts pieces block tags copies = revokes-piece first texts pieces (Copies block tags copies)
 
--- and its copies' places
+-- and places its copies
 pub places-copies : (texts : List Text) (pieces : List Piece) (block : List ℕ) (tags : List Tag) (copies : List (List ℕ)) →
     places_of (texts ++ unfinished (pieces ++ Copies block tags copies ∷ []) ∷ [])
     ≡ placed_all (places_of (texts ++ unfinished pieces ∷ []))
@@ -122,11 +122,11 @@ places-copies texts pieces block tags copies = places-piece texts pieces (Copies
 pub revokes-begun : (first : ℕ) (texts : List Text) → revokes_of first (texts ++ unfinished [] ∷ []) ≡ revokes_of first texts
 revokes-begun first texts = revokes-push first texts (unfinished [])
 
--- no copy
+-- nor a copy
 pub copies-begun : (texts : List Text) → copies_of (texts ++ unfinished [] ∷ []) ≡ copies_of texts
 copies-begun texts = copies-more texts (unfinished []) ∙ append-nil (copies_of texts)
 
--- and no place
+-- nor a place
 pub places-begun : (texts : List Text) → places_of (texts ++ unfinished [] ∷ []) ≡ places_of texts
 places-begun texts = places-push texts (unfinished [])
 
@@ -134,15 +134,15 @@ places-begun texts = places-push texts (unfinished [])
 pub revokes-finished : (first : ℕ) (texts : List Text) (t : Text) → revokes_of first (texts ++ t ∷ []) ≡ revokes_of first (texts ++ unfinished t.pieces ∷ [])
 revokes-finished first texts t = revokes-push first texts t ∙ sym (revokes-push first texts (unfinished t.pieces))
 
--- their copies
+-- and their copies
 pub copies-finished : (texts : List Text) (t : Text) → copies_of (texts ++ t ∷ []) ≡ copies_of (texts ++ unfinished t.pieces ∷ [])
 copies-finished texts t = copies-more texts t ∙ sym (copies-more texts (unfinished t.pieces))
 
--- and their copies' places
+-- and their places
 pub places-finished : (texts : List Text) (t : Text) → places_of (texts ++ t ∷ []) ≡ places_of (texts ++ unfinished t.pieces ∷ [])
 places-finished texts t = places-push texts t ∙ sym (places-push texts (unfinished t.pieces))
 
--- one more of a transaction's revokes
+-- noting one more of a transaction's revokes
 pub noted-more : (table : BlockTable) (tid i number : ℕ) (numbers : List ℕ) → i < length numbers → number ≡ get_or numbers i number →
     noted_all table (notes_of tid (take (i + 1) numbers)) ≡ noted (noted_all table (notes_of tid (take i numbers))) number tid
 noted-more table tid i number numbers below read =
@@ -150,7 +150,7 @@ noted-more table tid i number numbers below read =
     ∙ ap (noted_all table) (map-append (λ (b : ℕ). (b, tid)) (take i numbers) (number ∷ []))
     ∙ noted-append table (notes_of tid (take i numbers)) ((number, tid) ∷ [])
 
--- one more copy
+-- placing one more copy
 pub placed-more : (table : BlockTable) (place i : ℕ) (copies : BlockCopies) (c : ℕ × List ℕ) → i < length copies → c ≡ get_or copies i c →
     placed_all table (copy_notes place (take (i + 1) copies)) ≡ insert (placed_all table (copy_notes place (take i copies))) c.0 (place + i)
 placed-more table place i copies c below read =

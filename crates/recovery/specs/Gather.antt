@@ -62,11 +62,11 @@ pub record ReadsOtherwise (honest : Type 0) (s : Super) (transactions : ℕ) (ol
   pub some : 0 < transactions
   pub never : honest → (texts : List Text) → IsChainOf s old.shape.home_blocks (reading old.disk) texts → transactions ≡ length texts → ⊥
 
--- why gathering is refused: the device failed, memory ran out, or the log reads otherwise than it was scanned
+-- why gathering is refused
 abbrev pub IsGatherRefused : (honest : Type 0) → Super → ℕ → DeviceState → DeviceState → JournalError → Type 0
 IsGatherRefused honest s transactions old new e = IsFailure old new e ⊎ ReadsOtherwise honest s transactions old new e
 
--- why a replay is refused: the device failed, or the log reads otherwise
+-- why a replay is refused
 abbrev pub IsReplayRefused : (honest : Type 0) → Super → ℕ → DeviceState → DeviceState → JournalError → Type 0
 IsReplayRefused honest s transactions old new e = IsDeviceFailure old new e ⊎ ReadsOtherwise honest s transactions old new e
 

@@ -9,8 +9,8 @@ use Rattle.journal_world.specs.Sound.{durable_cell}
 abbrev pub HoldsOrOld : (bytes : List ℕ) → (old new : Cell) → Type 0
 HoldsOrOld bytes old new = (v : List ℕ) → IsOneOf (held new) v → IsOneOf (held old) v ⊎ (v ≡ bytes)
 
--- Such a moment: home is as it was; the log area's blocks after the log are too, but may have become durable as they read. The log's
--- blocks hold what they held, or zeros. Block 0 holds what it held, or the new superblock if all zeros are durable.
+-- Such a moment: home is as it was, and so are the log area's blocks after the log, unless they became durable as they read. The log's
+-- blocks hold what they held, or zeros; block 0 what it held, or the new superblock if all zeros are durable.
 pub record IsMakingMoment (shape : Shape) (maxlen : ℕ) (uuid : List ℕ) (is_wide : Bool) (old disk : Disk) : Type 0 where
   pub home : (b : ℕ) → disk Home b ≡ old Home b
   pub behind : (n : ℕ) → maxlen ≤ n → (disk Log n ≡ old Log n) ⊎ (disk Log n ≡ flushed old Log Log n)

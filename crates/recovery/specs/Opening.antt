@@ -21,8 +21,8 @@ use Rattle.log_epochs.specs.OpeningSteps.{Found, next_of}
 use Rattle.recovery.specs.Calls.{HasBegun, HasMade, opening_calls}
 use Rattle.recovery.specs.Gather.{TablesValue, tables_of}
 
--- A log of `maxlen` blocks that was just formatted, with both sizes within their limits. Its superblock is durable, and so are the
--- zeros of its other blocks. The log area's blocks after it read as before, durably, and home is as it was.
+-- A log of `maxlen` blocks that was just formatted. Its superblock and the zeros of its other blocks are durable. The log area's blocks
+-- after it read as before, durably, and home is as it was.
 pub record IsFormatted (shape : Shape) (maxlen : ℕ) (uuid : List ℕ) (is_wide : Bool) (old new : Disk) : Type 0 where
   pub block_size : IsBlockSize shape.block_size
   pub least : least_length ≤ maxlen
@@ -33,7 +33,7 @@ pub record IsFormatted (shape : Shape) (maxlen : ℕ) (uuid : List ℕ) (is_wide
   pub behind : (n : ℕ) → maxlen ≤ n → new Log n ≡ flushed old Log Log n
   pub home : (b : ℕ) → new Home b ≡ old Home b
 
--- Why formatting is refused: the block size, or else the length, and then nothing was done; or the device failed.
+-- Why formatting is refused; unless the device failed, nothing was done.
 pub record FormatRefused (maxlen : ℕ) (old new : DeviceState) (e : JournalError) : Type 0 where
   pub size : e ≡ BadBlockSize → (IsBlockSize old.shape.block_size → ⊥) × Stays old new × (new.faults ≡ old.faults)
   pub length_is : e ≡ BadLength → IsBlockSize old.shape.block_size
@@ -48,7 +48,7 @@ pub data Tells (shape : Shape) (image : Image) : (clean : Bool) → (ends_at tra
   OfChain : (texts : List Text) → HasChain shape image texts →
       Tells shape image false ((super_of image).s_sequence + length texts) (length texts)
 
--- The refusals of a ring between these places of the log area: a damaged block, a block that is ahead, or no number left.
+-- The refusals of a ring between these places of the log area.
 pub data IsRingRefusal (first end : ℕ) : JournalError → Type 0 where
   NamesDamaged : (e : JournalError) → NamesDamage first end e → IsRingRefusal first end e
   NamesAhead : (place : ℕ) → first ≤ place → place < end → IsRingRefusal first end (Ahead place)
@@ -62,22 +62,22 @@ IsContentRefusal shape e = IsOneOf super_refusals e ⊎ IsRingRefusal 1 shape.lo
 abbrev pub IsNotRefused : Shape → Image → Type 0
 IsNotRefused shape image = (e : JournalError) → IsRefused shape image e → ⊥
 
--- The log read otherwise during replay than in the tests, which shows at a ring block: reads were not correct. The log was flushed
--- before, and none of its blocks was written; what is home may be wrong.
+-- The log read otherwise during replay than in the tests: reads were not correct. The log was flushed, and none of its blocks was
+-- written; what is home may be wrong.
 pub record IsReadOtherwise (honest : Type 0) (old new : DeviceState) (e : JournalError) : Type 0 where
   pub dishonest : honest → ⊥
   pub names : NamesDamage 1 old.shape.log_blocks e
   pub log : (n : ℕ) → new.disk Log n ≡ flushed old.disk Log Log n
 
--- Why an opening is refused: the device failed; memory ran out, with nothing written and no refusal of what was read; or what was read
--- is refused, with nothing written unless reads were incorrect. (A block larger than any log's is read into allocated memory.)
+-- Why an opening is refused. Unless the device failed, nothing was written, or reads were not correct. (A block larger than any log's
+-- is read into allocated memory.)
 pub record OpeningRefused (honest : Type 0) (old new : DeviceState) (e : JournalError) : Type 0 where
   pub device : e ≡ Device → new.faults ≡ one_more_fault old.faults
   pub no_fault : e ≢ Device → new.faults ≡ old.faults
   pub memory : e ≡ Memory → Stays old new × (honest → old.shape.block_size ≤ most_bytes → IsNotRefused old.shape (reading old.disk))
   pub content : e ≢ Device → e ≢ Memory → (Stays old new ⊎ IsReadOtherwise honest old new e) × IsContentRefusal old.shape e × (honest → IsRefused old.shape (reading old.disk) e)
 
--- An opening that ended: what it read is good, and it made the calls due for that.
+-- an opening that ended: what it read is good, and it made the calls due for that
 pub record IsDone (old new : DeviceState) : Type 0 where
   pub found : Found
   pub is : IsFoundOn old.shape found old.disk
@@ -89,12 +89,12 @@ pub record IsDoneWith (old new : DeviceState) (superblock : List ℕ) (next : �
   pub superblock_is : superblock ≡ cleaned (done.found.image Log 0) next
   pub next_is : next ≡ next_of done.found
 
--- An opening in which the device failed: it had only read, or it had made some of the calls due for what it read.
+-- an opening in which the device failed, after reads alone or some of the calls due
 pub data IsBroken (old new : DeviceState) : Type 0 where
   Reading : Stays old new → IsBroken old new
   Writing : (found : Found) → IsFoundOn old.shape found old.disk → HasBegun (opening_calls found) old new → IsBroken old new
 
--- why reading block 0 is refused: the device failed; memory ran out, for a block larger than any log's; or the superblock is refused
+-- why reading block 0 is refused; memory runs out only for a block larger than any log's
 abbrev pub IsReadingRefused : (honest : Type 0) → DeviceState → DeviceState → JournalError → Type 0
 IsReadingRefused honest old new e =
     IsDeviceFailure old new e
@@ -133,7 +133,7 @@ pub record IsTested (s : Super) (count : ℕ) (image : Image) (transactions : �
   pub has : HasTransactions s count image transactions
   pub none_ahead : NoneAhead s image (s.s_sequence + transactions)
 
--- why the log's ring is refused: a damaged block, a block that is ahead, or no number left
+-- why the log's ring is refused
 pub data IsRefusedLog (s : Super) (count : ℕ) (image : Image) : JournalError → Type 0 where
   ForDamage : (e : JournalError) → s.s_start ≢ 0 → IsDamageOf s count image e → IsRefusedLog s count image e
   ForAhead : (transactions place : ℕ) → HasTransactions s count image transactions → IsLowestAhead s image (s.s_sequence + transactions) place →
@@ -141,7 +141,7 @@ pub data IsRefusedLog (s : Super) (count : ℕ) (image : Image) : JournalError �
   ForNumber : (transactions : ℕ) → HasTransactions s count image transactions → NoneAhead s image (s.s_sequence + transactions) →
       greatest_number ≤ s.s_sequence + transactions → IsRefusedLog s count image SequenceEnd
 
--- why the tests of the ring fail: the device failed, or the ring is refused
+-- why the tests of the ring fail
 abbrev pub IsTestRefused : (honest : Type 0) → Super → DeviceState → DeviceState → JournalError → Type 0
 IsTestRefused honest s old new e =
     IsDeviceFailure old new e

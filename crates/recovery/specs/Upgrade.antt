@@ -29,31 +29,29 @@ pub record IsUpgraded (old new : DeviceState) (sequence : ℕ) : Type 0 where
   pub made : HasMade (upgrade_calls block) old new
   pub sequence_is : sequence ≡ (super_in block).s_sequence
 
--- an upgrade that failed: it had only read, or it had made some of the calls
+-- an upgrade in which the device failed, after the read alone or some of the calls
 pub data IsUpgradeBroken (old new : DeviceState) : Type 0 where
   Reading : Stays old new → IsUpgradeBroken old new
   Writing : (block : List ℕ) → IsUpgradableOn old.shape block old.disk → HasBegun (upgrade_calls block) old new → IsUpgradeBroken old new
 
--- why a superblock is not upgraded: the log is wide already, or not clean
+-- why a superblock is not upgraded
 pub data IsKeptNarrow (s : Super) : JournalError → Type 0 where
   ForWide : s.s_feature_incompat ≡ wide_features → IsKeptNarrow s AlreadyWide
   ForContent : s.s_feature_incompat ≢ wide_features → s.s_start ≢ 0 → IsKeptNarrow s NotEmpty
 
--- why it is refused: the superblock's tests, or else its fields
+-- why it is refused: by the superblock's tests, or else by its fields
 pub data IsNotUpgraded (shape : Shape) (block : List ℕ) : JournalError → Type 0 where
   BySuperblock : (e : JournalError) → super_refusal shape block ≡ Some e → IsNotUpgraded shape block e
   ByFields : (e : JournalError) → super_refusal shape block ≡ None → IsKeptNarrow (super_in block) e → IsNotUpgraded shape block e
 
--- Why an upgrade is refused: the device failed; memory ran out for a block larger than any log's, or what was read is not upgraded, and
--- then nothing was written.
+-- Why an upgrade is refused; unless the device failed, nothing was written.
 pub record UpgradeRefused (honest : Type 0) (old new : DeviceState) (e : JournalError) : Type 0 where
   pub device : e ≡ Device → new.faults ≡ one_more_fault old.faults
   pub no_fault : e ≢ Device → new.faults ≡ old.faults
   pub memory : e ≡ Memory → Stays old new × (most_bytes < old.shape.block_size)
   pub content : e ≢ Device → e ≢ Memory → Stays old new × IsOneOf (AlreadyWide ∷ NotEmpty ∷ super_refusals) e × (honest → IsNotUpgraded old.shape (old.disk Log 0).reads e)
 
--- Whatever came before: if nobody works on the old disk, an upgrade may begin, make its calls and hand the device out, which leaves the
--- new disk.
+-- Whatever came before: if nobody works on the old disk, an upgrade that hands the device out leads to the new disk.
 abbrev pub LeadsThroughUpgrade : Shape → List ℕ → Disk → Disk → Type 0
 LeadsThroughUpgrade shape block old new =
     (w : World) → w.shape ≡ shape → w.disk ≡ old → w.phase ≡ Shut →

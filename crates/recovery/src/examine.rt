@@ -19,8 +19,7 @@ use log_format::Super;
 use log_scan::{BlockBuffer, Finder, Log, scan};
 use std::alloc::Global;
 
-/// A log that was read and not refused: block 0, the superblock's fields, the number of complete transactions, and the tables for
-/// replay.
+/// A log that was read and not refused: block 0, the superblock's fields, the count of complete transactions, and replay's tables.
 #[derive(Drop)]
 pub(crate) struct Examined {
     pub(crate) superblock: Vec<u8>,
@@ -30,8 +29,8 @@ pub(crate) struct Examined {
     pub(crate) finder: Finder,
 }
 
-/// Reads and tests the log, then gathers the tables for replay. Nothing is written, and all memory that an opening needs is taken here.
-/// The tests take no memory unless blocks exceed 4096 bytes.
+/// Reads and tests the log, then gathers replay's tables. Nothing is written, and an opening takes all its memory here; the tests take
+/// none unless blocks exceed 4096 bytes.
 pub(crate) fn examine<D: Device>(alloc: Global, device: &mut D) -> Result<Examined, JournalError>
     requires some { 0 < (D.state device.old).shape.log_blocks }
     ensures examined { IfOk result (λ e. IsExamined (D.state device.old).shape e.superblock.items e.log e.transactions) }
@@ -55,13 +54,13 @@ pub(crate) fn examine<D: Device>(alloc: Global, device: &mut D) -> Result<Examin
     })
 }
 
-/// Reads block 0 of the log area and tests it; the area must have a block. It answers the block and the superblock's fields. It takes
-/// memory only if the device's blocks exceed 4096 bytes, which no log's do. Nothing is written.
+/// Reads block 0 of the log area, which must have one, and tests it. It answers the block and the superblock's fields. It writes
+/// nothing, and takes memory only for blocks above 4096 bytes, which no log has.
 /// Source: fs/jbd2/journal.c by behaviour; the tests are those of `Super::read`.
 ///
 /// # Errors
 ///
-/// `BadMagic` to `ErrnoSet`: the superblock. `Device`: the read failed. `Memory`: none for such a large block.
+/// `BadMagic` to `ErrnoSet`: the superblock. `Device`: the read failed. `Memory`: for such a large block.
 pub fn read_super<D: Device>(
     alloc: Global,
     device: &mut D,
@@ -82,7 +81,7 @@ pub fn read_super<D: Device>(
     Ok((block, Log::new(fields)))
 }
 
-/// Why a log is refused whose blocks exceed any log's. It reads block 0 into allocated memory.
+/// Why a log is refused whose blocks exceed any log's.
 fn refusal_of_large<D: Device>(alloc: Global, device: &mut D) -> JournalError
     requires some { 0 < (D.state device.old).shape.log_blocks }
     requires large { most_bytes < (D.state device.old).shape.block_size }
@@ -101,7 +100,7 @@ fn refusal_of_large<D: Device>(alloc: Global, device: &mut D) -> JournalError
     }
 }
 
-/// Reads block 0 into allocated memory, by one call.
+/// Reads block 0 into allocated memory.
 ///
 /// # Errors
 ///
@@ -165,8 +164,8 @@ fn count_transactions<D: Device>(
     scan(device, log, Some(home_blocks), finder)
 }
 
-/// The lowest place of a ring block that has the magic and a sequence above `limit`, or none. The limit is the number after the chain's
-/// last transaction. It reads one block at a time, takes no memory and writes nothing.
+/// The lowest place, if any, of a ring block that has the magic and a sequence above `limit`, the number after the chain's last
+/// transaction. It takes no memory and writes nothing.
 /// Source: this project's own.
 ///
 /// # Errors

@@ -20,7 +20,7 @@ use log_scan::{Cursor, Finder, Found, Log};
 use std::alloc::Global;
 use std::marker::Model;
 
-/// The tables for replay: the greatest transaction that revokes each block, and the place of each block's newest copy among the chain's
+/// Replay's tables: the greatest transaction that revokes each block, and the place of each block's newest copy among the chain's
 /// copies.
 #[derive(Drop)]
 pub struct Tables {
@@ -49,8 +49,8 @@ impl Tables {
         }
     }
 
-    /// Whether a copy goes home that has this transaction and this place among the chain's copies: it is its block's newest, and
-    /// neither its own transaction nor a later one revokes the block.
+    /// Whether the copy of this transaction at this place goes home: it is its block's newest, and neither its own transaction nor a
+    /// later one revokes the block.
     pub fn goes_home(&self, block: BlockNo, tid: Tid, place: u64) -> bool
         ensures { result ≡ goes_by self.now.revokes self.now.copies tid place block }
     {
@@ -68,7 +68,7 @@ impl Tables {
         Ok(())
     }
 
-    /// Adds the copies of a descriptor with these tags; `place` is the first one's.
+    /// Adds the copies of a descriptor's tags, from this place on.
     fn note_copies(&mut self, tags: &[Tag], place: u64) -> Result<(), JournalError>
         requires { place + length tags.now < 2 ^ 64 }
         ensures ok { OnOk result (self.new ≡ with_copies self.old place tags.now) }
@@ -81,7 +81,7 @@ impl Tables {
     }
 }
 
-/// The number of the transaction that follows so many complete ones.
+/// The number of the transaction after these.
 pub(crate) fn number_of(log: &Log, transactions: u64) -> Tid
     requires { log.now.s_sequence + transactions ≤ greatest_number }
     ensures { result ≡ log.now.s_sequence + transactions }
@@ -89,14 +89,13 @@ pub(crate) fn number_of(log: &Log, transactions: u64) -> Tid
     Tid((log.first_number() + transactions) as u32)
 }
 
-/// Gathers the revokes and copies of the complete transactions, in a log that is not clean. `transactions` is what `scan` answered. It
-/// reads one block at a time, and no copy. Numbers do not wrap: an opening refuses a log without a next number before it gathers.
+/// Gathers the revokes and copies of the complete transactions, which `scan` counted in a log that is not clean. It reads no copies,
+/// and writes nothing. Numbers do not wrap, as an opening refuses a log without a next number first.
 /// Source: fs/jbd2/recovery.c by behaviour; the table of copies is this project's own.
 ///
 /// # Errors
 ///
-/// Nothing is written. `Memory`. `Device`: a read failed. `Damage`: the log reads otherwise than it did to `scan`; it names the place
-/// where that shows.
+/// `Memory`. `Device`: a read failed. `Damage`: the log reads otherwise than to `scan`, at the place named.
 pub fn gather<D: Device>(
     alloc: Global,
     device: &mut D,

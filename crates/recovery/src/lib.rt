@@ -1,9 +1,9 @@
 //! Makes a log, and opens one: it tests the log, replays the transactions that a crash left, and leaves it clean.
 //!
-//! `examine` reads and tests superblock and ring. `gathering` collects the revokes and newest copies of the complete transactions;
-//! `replaying` writes these copies home and marks the log clean. `opening` joins them to make an `Opened`. `planning` says what an
-//! opening would do, `empty_log` formats, and `upgrading` gives an empty log 64-bit block numbers. `specs/Calls.antt` lists the calls
-//! of an opening, `specs/Opening.antt` its answers, and `laws` ties those calls to the definition of replay.
+//! `examine` tests superblock and ring, `gathering` collects the revokes and newest copies, `replaying` writes these home and marks the
+//! log clean; `opening` joins them. `planning` says what an opening would do, `empty_log` formats, `upgrading` widens an empty log's
+//! block numbers. `specs/Calls.antt` lists the calls of an opening, `specs/Opening.antt` its answers; `laws` ties the calls to the
+//! definition of replay.
 #![tactic(auto)]
 
 mod empty_log;

@@ -31,7 +31,7 @@ pub struct Report {
     pub transactions: u64,
 }
 
-/// A device whose log was opened: the log is clean, and its copies are home. Make a journal of it, or take the device back.
+/// A device with an opened log, which is clean, its copies home. Make a journal of it, or take the device back.
 #[derive(Drop)]
 pub struct Opened<D: Device> {
     pub(crate) device: D,
@@ -62,26 +62,25 @@ impl<D: Device> Model for Opened<D> {
 /// Opens the log of a device: it tests the log, replays its transactions and leaves it clean. The log area is flushed first, so that no
 /// later crash takes back what was read.
 ///
-/// `opening_calls` (`specs/Calls.antt`) lists the calls: a flush of the log; if it is not clean, one write of each home block that has
-/// a live copy, in the chain's order, a flush of home, the write of the superblock and a flush of the log. Memory is taken only once
-/// all tests have passed: for block 0, and in proportion to the blocks that the chain names. (If blocks exceed 4096 bytes, as no log's
-/// do, block 0 is read into allocated memory.)
+/// `opening_calls` (`specs/Calls.antt`) lists the calls: a flush of the log; if it is not clean, one write of each home block with a
+/// live copy, in the chain's order, a flush of home, the superblock's write and a flush of the log. Memory is taken once all tests have
+/// passed: for block 0, and in proportion to the blocks that the chain names. (Block 0 is read into memory first if blocks exceed 4096
+/// bytes, as no log's do.)
 ///
 /// # Errors
 ///
-/// The device comes back with the error.
-/// - Nothing is written: `BadMagic` to `ErrnoSet` for the superblock, `Damage` and `Ahead` for a ring block, `SequenceEnd` if no
-///   transaction number is left, `Memory` if nothing in the log is refused, `BadLength` if the log area has no block (no call is made).
-/// - `Device`: home and the superblock may have been written. Once the log's flush has succeeded, each crash image opens to the same
-///   transactions.
-/// - `Damage` also if the log reads otherwise during replay than in the tests, which needs incorrect reads: some copies may be home,
-///   and the log is as it was, not clean.
+/// The device comes back.
+/// - Nothing is written: `BadMagic` to `ErrnoSet` (superblock), `Damage` and `Ahead` (ring block), `SequenceEnd` (no number left),
+///   `Memory` (the log is not refused), `BadLength` (the log area has no block; no call is made).
+/// - `Device`: home and the superblock may have been written. After the log's flush, each crash image opens to the same transactions.
+/// - `Damage` too if the log reads otherwise during replay than in the tests, which needs incorrect reads. Copies may be home, and the
+///   log is not clean.
 ///
 /// Source: fs/jbd2/recovery.c by behaviour; the flush, the tests of ring blocks, and that each home block is written once are this
 /// project's own.
 pub fn open<D: Device>(alloc: Global, device: D) -> Result<Opened<D>, (D, JournalError)>
     ensures opened { IfOk result (λ o. D.honest o.device → IsOpening (D.state device).shape (D.state device).disk (D.state o.device).disk o.superblock o.next) }
-    // It is a run of the machine, from begin to answer, whatever came before on a device that nobody uses.
+    // It is a run of the machine, whatever came before on a device that nobody uses.
     ensures run { IfOk result (λ o. D.honest o.device → LeadsToEngine (D.state device).shape (D.state device).disk (D.state o.device).disk o.superblock o.next) }
     ensures report { IfOk result (λ o. D.honest o.device → Tells (D.state device).shape (reading (D.state device).disk) o.clean o.ends_at o.transactions) }
     ensures calls { MatchResult result
@@ -115,7 +114,7 @@ pub fn open<D: Device>(alloc: Global, device: D) -> Result<Opened<D>, (D, Journa
 
 impl<D: Device> Opened<D> {
     /// An opened log of the parts that `into_parts` gave, and its report. The device may be another one with the same blocks, such as a
-    /// `FailOnce` that counts calls from the opening on.
+    /// `FailOnce`.
     pub fn from_parts(device: D, superblock: Vec<u8>, next: Tid, report: Report) -> Self
         requires named { IsNextNamed (D.state device).shape superblock.items next }
         requires log { D.honest device → IsOpenedLog (D.state device).shape (D.state device).disk superblock.items next }
@@ -195,9 +194,9 @@ impl<D: Device> Opened<D> {
         device
     }
 
-    /// The parts of a journal: the device, block 0 of its log, and the next transaction's number, at least 1. Block 0 is a clean log's
+    /// A journal's parts: the device, block 0 of its log, and the next transaction's number, at least 1. Block 0 is a clean log's
     /// superblock, which names that number or the one before. If reads were correct, it is durable, and no ring block can pass for part
-    /// of the next or a later transaction.
+    /// of a coming transaction.
     pub fn into_parts(self) -> (D, Vec<u8>, Tid)
         ensures device { result.0 ≡ self.device }
         ensures superblock { result.1.items ≡ self.superblock }
@@ -215,7 +214,7 @@ impl<D: Device> Opened<D> {
     }
 }
 
-/// The next transaction's number, after this greatest number in use.
+/// The next transaction's number, after this greatest one in use.
 pub fn number_from(limit: u64) -> u32
     requires { limit < greatest_number }
     ensures { result ≡ limit + 1 }
@@ -223,7 +222,7 @@ pub fn number_from(limit: u64) -> u32
     (limit + 1) as u32
 }
 
-/// Reads the log, replays it and leaves it clean. It answers block 0, the next transaction's number and the report.
+/// Reads the log, replays it and leaves it clean.
 fn recover<D: Device>(alloc: Global, device: &mut D) -> Result<(Vec<u8>, u32, Report), JournalError>
     requires some { 0 < (D.state device.old).shape.log_blocks }
     ensures named { IfOk result (λ r. IsNextNamed (D.state device.new).shape r.0.items r.1) }

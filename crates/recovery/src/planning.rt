@@ -31,8 +31,8 @@ pub struct Plan {
     pub next: Tid,
 }
 
-/// What `open` would do to this device's log. It reads as an opening does, and the chain's descriptors once more; it writes and flushes
-/// nothing. A later opening does just that if nobody writes the log meanwhile.
+/// What `open` would do to this log. It reads as an opening does, and the chain's descriptors once more; it writes and flushes nothing.
+/// A later opening does just that if nobody writes the log meanwhile.
 ///
 /// # Errors
 ///
@@ -93,8 +93,7 @@ fn count_home<D: Device>(device: &mut D, examined: Examined) -> Result<u64, Jour
     count_copies(device, &log, transactions, &tables, &mut finder)
 }
 
-/// How many copies go home by the tables, in a log that is not clean: those that `replay` writes. `transactions` is what `scan`
-/// answered, and `tables` what `gather` did. It reads one block at a time, and no copy; it takes no memory and writes nothing.
+/// How many copies go home by the tables: those that `replay` would write. It takes no memory and writes nothing.
 ///
 /// # Errors
 ///
@@ -136,7 +135,7 @@ pub fn count_copies<D: Device>(
     Ok(count)
 }
 
-/// How many copies with these tags go home, in this transaction; `place` is the first one's.
+/// How many copies of these tags go home, from this place on.
 fn count_tagged(tables: &Tables, tid: Tid, place: u64, tags: &[Tag]) -> u64
     requires { place + length tags.now < 2 ^ 64 }
     ensures count { result ≡ count_chosen tables.now tid place tags.now }

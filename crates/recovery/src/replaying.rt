@@ -36,15 +36,14 @@ struct Copies {
 }
 
 /// Writes home the copies of a log that is not clean, in the chain's order: each block's newest, unescaped, unless its own or a later
-/// transaction revokes the block. `transactions` is what `scan` answered, and `tables` what `gather` did. It reads and writes one block
-/// at a time, writes no block twice, takes no memory, and writes nothing to the log. It answers Ok only after it has passed every
-/// transaction.
+/// transaction revokes the block. `transactions` is what `scan` answered, `tables` what `gather` did. It writes no block twice and
+/// nothing to the log, and takes no memory. It answers Ok only after passing every transaction.
 /// Source: fs/jbd2/recovery.c by behaviour; that a block is written once is this project's own.
 ///
 /// # Errors
 ///
-/// `Device`: the device failed, with some of the copies home. `Damage`: the log reads otherwise than it did to `scan`, at the place
-/// named. The copies already home may be wrong, so do not mark the log clean. With correct reads it never happens.
+/// `Device`: some copies are home. `Damage`: the log reads otherwise than to `scan`, at the place named, which needs incorrect reads.
+/// Copies at home may be wrong: do not mark the log clean.
 pub fn replay<D: Device>(
     device: &mut D,
     log: &Log,
@@ -93,7 +92,7 @@ pub fn replay<D: Device>(
     Ok(())
 }
 
-/// Writes home those copies of the last descriptor found that the tables choose.
+/// Writes home those copies of the last descriptor that the tables choose.
 fn write_copies<D: Device>(
     device: &mut D,
     log: &Log,
@@ -154,7 +153,7 @@ fn copy_home<D: Device>(
 }
 
 /// Makes home durable, then marks the log clean: a flush of home, the write of block 0, a flush of the log. `superblock` is block 0 as
-/// it was read, and becomes what is written; `next` is the next transaction's number.
+/// read, and becomes what is written; `next` is the next transaction's number.
 /// Source: fs/jbd2/recovery.c by behaviour.
 ///
 /// # Errors

@@ -68,7 +68,7 @@ fn may_be_upgraded(fields: &Super) -> Result<(), JournalError>
     Ok(())
 }
 
-/// Makes the log durable as it was read, then writes its superblock with a wide log's features, durably.
+/// Makes the log durable as read, then writes a wide log's superblock, durably.
 fn write_widened<D: Device>(
     device: &mut D,
     superblock: &mut BlockBuffer,

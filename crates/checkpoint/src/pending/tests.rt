@@ -7,7 +7,6 @@ use journal_model::{Block, BlockNo, Entry, Tid};
 use std::alloc::Global;
 use std::test::Fail;
 
-/// Whether each copy in the queue is of a lower transaction.
 fn is_later(pending: &Pending, tid: Tid) -> bool
     ensures { IsTrue result → AllByRecursion (λ k. k.0 < tid) pending.now.queue }
 {
@@ -19,7 +18,7 @@ fn is_later(pending: &Pending, tid: Tid) -> bool
     true
 }
 
-/// Commits a transaction with these entries: a block each, and whether it is a copy. It tells whether it may.
+/// Commits a transaction of these entries (block, whether a copy). Answers whether it may.
 fn commit(
     pending: &mut Pending,
     alloc: Global,
@@ -54,13 +53,13 @@ fn commit(
     Ok(true)
 }
 
-/// The pending copy of a block, as its transaction and its place.
+/// The transaction and place of a block's pending copy.
 fn found(pending: &Pending, block: u64) -> Option<(u32, usize)> {
     let version = pending.lookup(BlockNo(block))?;
     Some((version.tid.0, version.place))
 }
 
-/// The transactions and the blocks of the copies up to a transaction, in the order in which they are written home.
+/// Writes home the copies up to a transaction, and answers them in order.
 fn written(pending: &mut Pending, alloc: Global, bound: u32) -> Result<Vec<(u32, u64)>, Fail>
     ensures { pending.new.room ≡ pending.old.room }
 {
@@ -77,36 +76,31 @@ fn written(pending: &mut Pending, alloc: Global, bound: u32) -> Result<Vec<(u32,
     Ok(order)
 }
 
-/// What is done to pending copies, or asked of them.
 #[derive(Clone, Copy, Debug)]
 enum Step {
-    /// Commits a transaction with these entries.
+    /// A transaction with these entries.
     Commits(u32, &'static [(u64, bool)]),
-    /// Writes the copies up to a transaction home: these, by transaction and block.
+    /// The copies up to a transaction: these, by transaction and block.
     Writes(u32, &'static [(u32, u64)]),
-    /// Releases the transactions up to this one.
+    /// The transactions up to this one.
     Releases(u32),
-    /// The pending copy of a block has this transaction and place.
+    /// The block's pending copy has this transaction and place.
     Finds(u64, Option<(u32, usize)>),
     /// The next copy up to a transaction has this transaction, block and place.
     Next(u32, Option<(u32, u64, usize)>),
-    /// The lowest transaction of which a copy is pending.
     Oldest(Option<u32>),
 }
 
-/// The next copy to be written home.
 fn next(pending: &Pending, bound: u32) -> Option<(u32, u64, usize)> {
     let HomeCopy { block, version } = pending.next(Tid(bound))?;
     Some((version.tid.0, block.0, version.place))
 }
 
-/// The lowest transaction of which a copy is pending.
 fn oldest(pending: &Pending) -> Option<u32> {
     let tid = pending.oldest()?;
     Some(tid.0)
 }
 
-/// Makes a step, and tells whether it comes to what it says.
 fn holds(pending: &mut Pending, alloc: Global, room: usize, step: Step) -> Result<bool, Fail>
     requires { pending.old.room ≡ room }
     ensures { pending.new.room ≡ room }
@@ -124,7 +118,7 @@ fn holds(pending: &mut Pending, alloc: Global, room: usize, step: Step) -> Resul
     }
 }
 
-/// Makes steps up to the first that comes to something else, and tells its place, where there is one.
+/// The place of the first wrong step, if any.
 fn first_wrong(
     pending: &mut Pending,
     alloc: Global,
@@ -142,7 +136,7 @@ fn first_wrong(
     Ok(None)
 }
 
-/// Steps from no pending copies on, with room for so many.
+/// Steps from no pending copies on.
 #[derive(Clone, Copy, Debug)]
 struct Run {
     name: &'static str,
@@ -223,7 +217,7 @@ fn each_step_comes_to_what_it_says(rt: HostRuntime) -> Result<(), Fail> {
     Ok(())
 }
 
-/// A transaction of two copies, of which the next one replaces one, and then all are released.
+/// A transaction of two copies, one that replaces one of them, and a release of both.
 fn turn_round(pending: &mut Pending, alloc: Global, round: u32) -> Result<bool, Fail>
     requires room { pending.old.room ≡ 4 }
     requires few { round < 50 }

@@ -13,7 +13,7 @@ returns-clause-size g c =
     ∙ as-long c.in_ok-bytes.bytes.len (g.D.Device.state c.args.device.now).shape.block_size c.read.new.into
     (drop (length c.read.new.into) c.in_ok-bytes.bytes.items) (omega arith) (omega arith)
 
--- it is what was read
+-- the block is what was read
 pub returns-clause-bytes : goal.returns-clause-bytes
 returns-clause-bytes g c = λ honest.
     let new = c.read.auto.into in

@@ -3,7 +3,7 @@ use Rattle.checkpoint.specs.declared.copies.QueuedCopy.{QueuedCopy}
 use Rattle.checkpoint.specs.Copies.{AreCopies}
 use Rattle.checkpoint.proofs.steps.drop_released.Given as goal
 
--- the first copies are dropped, and each was of a transaction up to the bound
+-- the dropped copies were of transactions up to the bound
 abbrev pub invariant-loop-copies : goal.invariant-loop-copies
 invariant-loop-copies l =
     record {

@@ -41,7 +41,7 @@ returns-in_err-clean_log-clause-begun g c =
     (λ none. made-none u w (c.replay.ensures.none none)))
     (subst (λ (b : List ℕ). HasBegun (cleaning_calls (with_tail b c.args.next 0)) w x) c.deref_mut.ensures.value c.in_err-clean_log.ensures.begun))
 
--- the device failed, or the log read otherwise
+-- the device failed, or the log read differently
 pub returns-in_err-clean_log-clause-refused : goal.returns-in_err-clean_log-clause-refused
 returns-in_err-clean_log-clause-refused g c =
     let p = err_from_is_err_and c.from_residual-in_err-clean_log.result c.from_residual-in_err-clean_log.ensures.1 in

@@ -27,21 +27,21 @@ returns-in-Ok-clause-opened g c =
       done.3,
     ))
 
--- by the calls that are due
+-- the due calls were made
 pub returns-in-Ok-clause-calls : goal.returns-in-Ok-clause-calls
 returns-in-Ok-clause-calls g c =
     rw c.from_parts-opened.ensures (λ honest.
     let done = c.in-Ok.ensures.done honest in
     record { texts = done.0; greatest = done.1; is = done.2 })
 
--- each of its moments
+-- each of its moments is one
 pub returns-in-Ok-clause-moments : goal.returns-in-Ok-clause-moments
 returns-in-Ok-clause-moments g c =
     rw c.from_parts-opened.ensures (λ honest.
     let done = c.in-Ok.ensures.done honest in
     done-each (g.D.Device.state c.args.device) (g.D.Device.state c.recover_before.new.device) c.in-Ok.stopped_by c.in-Ok.superblock.items c.in-Ok.next done.0 done.1 done.2)
 
--- and each of one that failed
+-- each moment of one that failed is one
 pub returns-in-Err-clause-moments : goal.returns-in-Err-clause-moments
 returns-in-Err-clause-moments g c = λ honest.
     broken-each (g.D.Device.state c.args.device) (g.D.Device.state c.recover_before.new.device) (c.in-Err.ensures.broken honest)

@@ -64,7 +64,7 @@ returns-clause-read g c =
       alone = c.in_ok-found.ensures.alone;
     }
 
--- and it stands on the disk
+-- it stands on the disk
 pub returns-clause-on : goal.returns-clause-on
 returns-clause-on g c = λ honest.
     let s : DeviceState = g.D.Device.state c.args.device.now in

@@ -68,7 +68,7 @@ returns-in_err-superblock-clause-broken g c =
     (g.D.Device.state c.leave_clean.new.device) c.number_from-next.result c.number_from-next.ensures c.read_log.ensures.device.stays c.in_ok-flush.ensures.ok
     (c.in_err-superblock.ensures.begun honest))
 
--- or the log read otherwise
+-- or the log read differently
 pub returns-in_err-superblock-clause-refused : goal.returns-in_err-superblock-clause-refused
 returns-in_err-superblock-clause-refused g c =
     let p = err_from_is_err_and c.from_residual-in_err-superblock.result c.from_residual-in_err-superblock.ensures.1 in

@@ -10,7 +10,7 @@ pub returns-then-blocks-eq0-clause-refused : goal.returns-then-blocks-eq0-clause
 returns-then-blocks-eq0-clause-refused g c =
     no-log-before (g.D.Device.honest c.args.device.now) (g.D.Device.state c.args.device.now) (sym c.blocks-2.ensures ∙ c.if-blocks-eq0.true)
 
--- the log read otherwise, or the device failed
+-- the log read differently, or the device failed
 pub returns-in_err-blocks-clause-refused : goal.returns-in_err-blocks-clause-refused
 returns-in_err-blocks-clause-refused g c =
     let p = err_from_is_err_and c.from_residual-in_err-blocks.result c.from_residual-in_err-blocks.ensures.1 in

@@ -6,7 +6,7 @@ use Rattle.log_scan.specs.Finding.{IsSequenceOf, log_block}
 use Rattle.damaged_logs.proofs.Surveys.{up-to-more}
 use Rattle.damaged_logs.proofs.surveying.greatest_in_ring.Goals as goal
 
--- one more block is looked at
+-- one more block is read
 pub loop-place-preserved : goal.loop-place-preserved
 loop-place-preserved g c =
     let before = c.loop-place.invariant in

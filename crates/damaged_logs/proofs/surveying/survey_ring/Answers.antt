@@ -3,7 +3,7 @@ use Rattle.damaged_logs.proofs.Surveys.{surveyed-limit, surveyed-ring}
 use Rattle.damaged_logs.proofs.surveying.survey_ring.Goals as goal
 use Rattle.damaged_logs.proofs.surveying.survey_ring.Goals.{then-is_some+in_ok-greatest, else-is_some}
 
--- the log is surveyed: the ring is gone over once more where a block is ahead
+-- the ring is read again if a block is ahead
 pub returns-clause-surveyed : goal.returns-clause-surveyed
 returns-clause-surveyed g c =
     elim c.if-is_some.branch [

@@ -21,7 +21,6 @@ returns-in_err-finish_commit-clause-err g c =
     let p = err_from_is_err_and c.from_residual-in_err-finish_commit.result c.from_residual-in_err-finish_commit.ensures.1 in
     rw (p.1, p.2) (wrong-refused g.D.Device.state _ _ _ running c.in_err-finish_commit.ensures.err)
 
--- the last transaction is not sealed and committed
 pub returns-in_err-seal_last-clause-err : goal.returns-in_err-seal_last-clause-err
 returns-in_err-seal_last-clause-err g c =
     let running = sym c.is_aborted.ensures ∙ c.if-is_aborted.false in

@@ -17,7 +17,6 @@ loop-journal-init g c = record {
   honest = λ honest. honest;
 }
 
--- the step that was refused has failed
 pub returns-in_err-commit_step-clause-err : goal.returns-in_err-commit_step-clause-err
 returns-in_err-commit_step-clause-err g c =
     let busy = λ (idle : c.loop-journal.journal.journal.engine.stage ≡ Idle). true≢false (sym (c.is_idle.ensures.1 idle) ∙ c.loop-journal-test.true) in

@@ -16,7 +16,6 @@ loop-journal-init g c = record {
   honest = λ honest. honest;
 }
 
--- the step that was refused has failed
 pub returns-in_err-checkpoint_turn-clause-err : goal.returns-in_err-checkpoint_turn-clause-err
 returns-in_err-checkpoint_turn-clause-err g c =
     let wrong = check-wrong g.D.Device.state _ _ _ c.loop-journal.invariant.went.running c.in_err-checkpoint_turn.ensures.err c.checkpoint_turn.ensures.device.shape in

@@ -15,13 +15,11 @@ use Rattle.group_commit.proofs.OwnCalls.{calls-after, no-calls, same-calls, seal
 use Rattle.group_commit.proofs.TurnMoments.{each-device, each-same, each-sealed}
 use Rattle.group_commit.proofs.close.seal_last.Goals as goal
 
--- memory ran out before anything was done
 pub returns-in_err-batch-clause-err : goal.returns-in_err-batch-clause-err
 returns-in_err-batch-clause-err g c =
     let p = err_from_is_err_and c.from_residual.result c.from_residual.ensures.1 in
     rw (p.1, p.2, c.in_err-batch.ensures.err) (LastRefused.NotMadeReady c.ready_batch.ensures.same)
 
--- the device failed before the seal
 pub returns-in_err-make_room-clause-err : goal.returns-in_err-make_room-clause-err
 returns-in_err-make_room-clause-err g c =
     let p = err_from_is_err_and c.from_residual-in_err-make_room.result c.from_residual-in_err-make_room.ensures.1 in
@@ -34,7 +32,6 @@ seal_running-requires-clause-batch g c =
     let went = went-from g.D.Device.state c.args.journal.now _ _ c.ready_batch.ensures.same c.in_ok-make_room.ensures.ok in
     c.in_ok-batch.ensures.ok ∙ ap batch_of (sym (same-running g.D.Device.state _ _ went.on))
 
--- the seal was refused
 pub returns-in_err-seal_running-clause-err : goal.returns-in_err-seal_running-clause-err
 returns-in_err-seal_running-clause-err g c =
     let went = went-from g.D.Device.state c.args.journal.now _ _ c.ready_batch.ensures.same c.in_ok-make_room.ensures.ok in
@@ -72,7 +69,6 @@ returns-clause-path g c =
     let has = seal-done g.D.Device.state _ _ _ went c.seal_running.ensures.told joined c.in_ok-seal_running.ensures.ok c.seal_running.ensures.device in
     way-on g.D.Device.state c.finish_commit.result _ _ _ has.path c.finish_commit.ensures.ok c.finish_commit.ensures.err
 
--- everything is sealed
 pub returns-clause-ok : goal.returns-clause-ok
 returns-clause-ok g c =
     let went = went-from g.D.Device.state c.args.journal.now _ _ c.ready_batch.ensures.same c.in_ok-make_room.ensures.ok in

@@ -6,7 +6,7 @@ use Rattle.journal_steps.proofs.Rounding.{agrees-round, agrees-round_refused, do
 use Rattle.journal_steps.proofs.Turning.{each-check}
 use Rattle.journal_steps.proofs.steps.checkpoint_turn.Goals as goal
 
--- once the front is told of the failure, they agree
+-- once the front is notified of the failure, they agree
 pub returns-in-Err-clause-agrees : goal.returns-in-Err-clause-agrees
 returns-in-Err-clause-agrees g c = agrees-round_refused _ _ _ _ _ _ _ c.requires.agrees c.abort.ensures c.in-Err.ensures.err
 

@@ -6,7 +6,7 @@ use Rattle.journal_steps.proofs.Sealing.{agrees-last, agrees-refused, finishes-c
 use Rattle.journal_steps.proofs.Turning.{each-turn}
 use Rattle.journal_steps.proofs.steps.commit_step.Goals as goal
 
--- once the front is told of the failure, they agree
+-- once the front is notified of the failure, they agree
 pub returns-in-Err-clause-agrees : goal.returns-in-Err-clause-agrees
 returns-in-Err-clause-agrees g c = agrees-refused _ _ _ _ _ _ _ c.requires.agrees c.abort.ensures c.in-Err.ensures.err
 

@@ -95,7 +95,7 @@ returns-in_err-new-clause-opens g c = λ honest.
     (ap (λ (f : Front). f.sealed) c.room_for_read.ensures.same) c.in_default-read.ensures.ok.1 c.read.ensures.device.stays.disk
     (opens-now _ _ c.requires.agrees (c.recall_invariant.ensures.opens honest))
 
--- once the front is told of the failed read, they agree
+-- once the front is notified of the failed read, they agree
 pub returns-in-Err-clause-agrees : goal.returns-in-Err-clause-agrees
 returns-in-Err-clause-agrees g c =
     let may = c.in_ok-admit.ensures.ok in

@@ -15,7 +15,6 @@ hand_out-requires g c v last =
     c.requires.length ∙ ap (λ (s : Shape). s.block_size) (sym c.recall_invariant.ensures.shape)
     ∙ sym (kept-whole j c.args.block v c.requires.agrees c.recall_invariant.ensures.plain last)
 
--- the front hands it out
 pub returns-then-branch-clause-ok : goal.returns-then-branch-clause-ok
 returns-then-branch-clause-ok g c =
     let last = rw c.if-branch.true at c.in_ok-hand_out.ensures.ok in
@@ -24,7 +23,7 @@ returns-then-branch-clause-ok g c =
     hands-copy g.D.Device.state g.D.Device.honest c.args.front.now c.args.engine.now c.args.block c.requires.agrees c.recall_invariant.ensures.plain running may
     c.hand_out.new.into last
 
--- once the front is told of the failed read, they agree
+-- once the front is notified of the failed read, they agree
 pub returns-in-Err-clause-agrees : goal.returns-in-Err-clause-agrees
 returns-in-Err-clause-agrees g c =
     let running = sym c.requires.agrees.aborted ∙ sym c.is_aborted.ensures ∙ c.if-is_aborted.false in

@@ -5,7 +5,7 @@ use Rattle.journal_steps.proofs.steps.sync_direct.Goals as goal
 pub returns-in-Ok-clause-agrees : goal.returns-in-Ok-clause-agrees
 returns-in-Ok-clause-agrees g c = agrees-direct _ _ _ _ _ _ c.requires.agrees c.in-Ok.ensures.ok
 
--- once the front is told, they agree
+-- once the front is notified, they agree
 pub returns-in-Err-clause-agrees : goal.returns-in-Err-clause-agrees
 returns-in-Err-clause-agrees g c = agrees-unsynced g.D.Device.state _ _ _ _ _ c.requires.agrees c.abort.ensures c.in-Err.ensures.err
 

@@ -31,7 +31,6 @@ returns-then-not-may_touch-clause-err g c =
     let no = λ (may : MayTouch c.args.front.now c.args.block). true≢false (sym (c.may_touch.ensures.1 may) ∙ c.if-not-may_touch.true) in
     (DirectWriteRefused.WriteOutside running no refl)
 
--- an unfinished transaction has an entry of the block
 pub returns-then-not-is_untouched-clause-err : goal.returns-then-not-is_untouched-clause-err
 returns-then-not-is_untouched-clause-err g c =
     let j : Journal = record { front = c.args.front.now; engine = c.args.engine.now.engine } in
@@ -44,7 +43,7 @@ returns-then-not-is_untouched-clause-err g c =
 pub returns-in-Ok-clause-agrees : goal.returns-in-Ok-clause-agrees
 returns-in-Ok-clause-agrees g c = agrees-direct _ _ _ _ _ _ c.requires.agrees c.in-Ok.ensures.ok
 
--- once the front is told what the engine knows, they agree
+-- once the engine notifies the front, they agree
 pub returns-in-Err-clause-agrees : goal.returns-in-Err-clause-agrees
 returns-in-Err-clause-agrees g c =
     let f = c.args.front.now in

@@ -1,4 +1,4 @@
--- Each field is before the tail, in it, or behind it.
+-- Each field is before the tail, in it, or after it.
 use Rattle.std.proofs.Common.{◌≤◌, ap, arith, length, take}
 use Rattle.log_format.proofs.Superblocks.{before_tail, behind_tail, rest_of_tail, sequence_of_tail, start_of_tail}
 use Rattle.log_format.proofs.laws.a_new_tail_changes_two_fields.Goals as goal

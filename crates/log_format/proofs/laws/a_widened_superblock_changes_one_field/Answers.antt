@@ -1,4 +1,4 @@
--- Each field is before the features, or behind them.
+-- Each field is before the features, or after them.
 use Rattle.std.proofs.Common.{◌≤◌, ap, arith, length, take}
 use Rattle.log_format.proofs.Widening.{before_features, behind_features, new_features, rest_of_features}
 use Rattle.log_format.proofs.laws.a_widened_superblock_changes_one_field.Goals as goal

@@ -1,4 +1,4 @@
--- The header is read back, whatever stands behind it.
+-- The header is read back, whatever stands after it.
 use Rattle.std.proofs.Common.{arith}
 use Rattle.journal_model.specs.Layout.{commit_type, padded}
 use Rattle.log_model.specs.OwnText.{commit_block}

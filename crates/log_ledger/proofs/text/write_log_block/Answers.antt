@@ -15,7 +15,7 @@ new-text-requires-clause-copies c =
     let copies = count-copies c.args.entries.now c.args.plan.now c.requires.plan in
     omega (arith, counted c.args.entries.now, c.requires.few, c.len.ensures, c.args.plan.now.copies.ok.0)
 
--- nor more revokes
+-- there are no more revokes than entries
 pub new-text-requires-clause-revokes : goal.new-text-requires-clause-revokes
 new-text-requires-clause-revokes c =
     let revokes = count-revokes c.args.entries.now c.args.plan.now c.requires.plan in

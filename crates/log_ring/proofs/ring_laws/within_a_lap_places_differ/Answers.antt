@@ -2,7 +2,7 @@ use Rattle.std.proofs.Common.{arith, ◌≡◌, ◌+◌, ◌*◌, ◌/◌, ◌%�
 use Rattle.std.proofs.Math.Nat.{div-add-mod, lt_of_mul-lt-mul_left}
 use Rattle.log_ring.proofs.ring_laws.within_a_lap_places_differ.Goals as goal
 
--- the same rest and less than a lap between: the same lap
+-- the same remainder less than a lap apart is the same lap
 pub returns : goal.returns
 returns c = λ r position later above below same.
     let one : r.blocks * (position / r.blocks) + position % r.blocks ≡ position = div-add-mod position r.blocks in

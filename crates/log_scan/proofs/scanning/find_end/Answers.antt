@@ -20,7 +20,7 @@ loop-init g c = rw c.new-cursor.ensures (record {
   };
 })
 
--- a piece or a commit block
+-- a piece or a commit block is passed
 pub loop-preserved : goal.loop-preserved
 loop-preserved g c = let before = c.loop.invariant in record {
   within = c.advance.ensures.within;

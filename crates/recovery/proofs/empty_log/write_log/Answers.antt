@@ -23,7 +23,6 @@ returns-clause-ok g c =
     (subst (λ (bytes : List ℕ). HasZeros bytes c.args.maxlen old zeroed) (c.fill.ensures.after (λ y same. same) ∙ ap (λ (n : ℕ). replicate n 0) c.requires.block) zeros)
     c.in_ok-flush.ensures.ok.now c.in_ok-write.ensures.ok.now c.in_ok-flush-2.ensures.ok.now
 
--- zeros were written, all or some
 pub returns-in_err-write_zeros-clause-moments : goal.returns-in_err-write_zeros-clause-moments
 returns-in_err-write_zeros-clause-moments g c =
     let s : DeviceState = g.D.Device.state c.args.device.now in
@@ -31,7 +30,6 @@ returns-in_err-write_zeros-clause-moments g c =
     making-zeroed s.shape c.args.maxlen c.args.uuid.now c.args.wide s (g.D.Device.state c.write_zeros.new.device)
     (rw (← zeros, ← c.from.ensures) c.write_zeros.ensures.moments)
 
--- the zeros may not be durable
 pub returns-in_err-flush-clause-moments : goal.returns-in_err-flush-clause-moments
 returns-in_err-flush-clause-moments g c =
     let s : DeviceState = g.D.Device.state c.args.device.now in
@@ -41,7 +39,6 @@ returns-in_err-flush-clause-moments g c =
     (rw (← zeros, ← c.from.ensures) c.write_zeros.ensures.moments))
     c.in_err-flush.ensures.err
 
--- the superblock may be written
 pub returns-in_err-write-clause-moments : goal.returns-in_err-write-clause-moments
 returns-in_err-write-clause-moments g c =
     let s : DeviceState = g.D.Device.state c.args.device.now in
@@ -55,7 +52,6 @@ returns-in_err-write-clause-moments g c =
     (making-zeroed s.shape c.args.maxlen c.args.uuid.now c.args.wide s zeroed (rw (← zeros, ← c.from.ensures) c.write_zeros.ensures.moments)) c.in_ok-flush.ensures.ok)
     c.write.ensures.writes
 
--- the superblock may not be durable
 pub returns-in_err-flush-2-clause-moments : goal.returns-in_err-flush-2-clause-moments
 returns-in_err-flush-2-clause-moments g c =
     let s : DeviceState = g.D.Device.state c.args.device.now in

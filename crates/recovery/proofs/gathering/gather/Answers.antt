@@ -25,7 +25,6 @@ loop-cursor-init g c = rw (c.new-cursor.ensures, c.new-tables.ensures) (record {
   gathers = λ h. gathers-none c.args.log.now c.blocks-2.result (reading (g.D.Device.state c.args.device.now).disk) c.args.transactions;
 })
 
--- a revoke block
 pub loop-cursor-preserved-in-Continue-branch-3 : goal.loop-cursor-preserved-in-Continue-branch-3
 loop-cursor-preserved-in-Continue-branch-3 g c =
     let s : Super = c.args.log.now in
@@ -54,7 +53,6 @@ loop-cursor-preserved-in-Continue-branch-3 g c =
           (subst (LeadsTo s c.blocks-2.result (reading old.disk) so.texts so.pieces c.advance.new.finder c.loop-cursor.cursor c.advance.new.self) c.in-RevokeBlock.is leads));
     }
 
--- a descriptor and its copies
 pub loop-cursor-preserved-in-Descriptor : goal.loop-cursor-preserved-in-Descriptor
 loop-cursor-preserved-in-Descriptor g c =
     let s : Super = c.args.log.now in
@@ -84,7 +82,6 @@ loop-cursor-preserved-in-Descriptor g c =
           (subst (LeadsTo s c.blocks-2.result (reading old.disk) so.texts so.pieces c.advance.new.finder c.loop-cursor.cursor c.advance.new.self) c.in-Descriptor.is leads));
     }
 
--- a commit block
 pub loop-cursor-preserved : goal.loop-cursor-preserved
 loop-cursor-preserved g c =
     let s : Super = c.args.log.now in

@@ -29,7 +29,6 @@ loop-cursor-init g c = rw c.new-cursor.ensures (record {
   counts = λ h. counts-none c.args.log.now c.blocks-2.result (reading (g.D.Device.state c.args.device.now).disk) c.args.transactions c.args.tables.now;
 })
 
--- a revoke block or a commit block
 pub loop-cursor-preserved-in-RevokeBlock : goal.loop-cursor-preserved-in-RevokeBlock
 loop-cursor-preserved-in-RevokeBlock g c =
     let s : Super = c.args.log.now in
@@ -54,7 +53,6 @@ loop-cursor-preserved-in-RevokeBlock g c =
           c.advance.new.finder c.in_ok-advance.field-0 c.in-RevokeBlock.is c.in_ok-advance.ensures.behind c.loop-cursor-test.true leads;
     }
 
--- a descriptor and its copies
 pub loop-cursor-preserved : goal.loop-cursor-preserved
 loop-cursor-preserved g c =
     let s : Super = c.args.log.now in

@@ -30,7 +30,6 @@ loop-cursor-init g c = rw c.new-cursor.ensures (record {
   replays = λ h. replays-none c.args.log.now c.blocks-2.result (reading (g.D.Device.state c.args.device.now).disk) c.args.transactions c.args.tables.now (g.D.Device.state c.args.device.now);
 })
 
--- a revoke block or a commit block
 pub loop-cursor-preserved-in-RevokeBlock : goal.loop-cursor-preserved-in-RevokeBlock
 loop-cursor-preserved-in-RevokeBlock g c =
     let s : Super = c.args.log.now in
@@ -62,7 +61,6 @@ loop-cursor-preserved-in-RevokeBlock g c =
           old mid so leads c.in-RevokeBlock.is c.in_ok-advance.ensures.behind c.loop-cursor-test.true (g.D.Device.state c.advance.new.device) c.advance.ensures.device.stays;
     }
 
--- a descriptor and its copies
 pub loop-cursor-preserved : goal.loop-cursor-preserved
 loop-cursor-preserved g c =
     let s : Super = c.args.log.now in

@@ -14,7 +14,7 @@ invariant_of-result c =
     subst (λ cs. Indexes d.size c.remember.new.index cs 0 0 0) (sym c.keep_survivors.ensures)
     (crash_indexes c.args.keep.now d.size d.index c.forget.new.index c.remember.new.index d.calls.items d.writes d.log_flushed d.home_flushed c.self.invariant forgets remembers)
 
--- what a block holds after the crash, by the device before it
+-- each block after the crash, by the device before
 pub image_of : (c : goal.After-remember) (a : Area) (n : ℕ) → (after_calls c.self.inside.size c.keep_survivors.new.calls.items).disk a n ≡ record { reads = crashed c.args.keep.now c.args.self a n; others = [] }
 image_of c a n =
     let d = c.self.inside in

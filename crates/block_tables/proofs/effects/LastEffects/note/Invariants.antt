@@ -4,7 +4,7 @@ use Rattle.indexmap.specs.IndexMap.{spare}
 use Rattle.block_tables.specs.Effects.{effect_on, last_among}
 use Rattle.block_tables.proofs.effects.LastEffects.note.Given as goal
 
--- what is noted, and then what is left to note, is all; and there is room for that
+-- what is noted and what is left are all, with room for the rest
 abbrev pub invariant-loop-block : goal.invariant-loop-block
 invariant-loop-block l =
     record {

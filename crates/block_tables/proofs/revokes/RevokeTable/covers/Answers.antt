@@ -3,7 +3,7 @@ use Rattle.block_tables.proofs.Covering.{covers-none, covers-up_to}
 use Rattle.block_tables.proofs.Maps.{get-seen}
 use Rattle.block_tables.proofs.revokes.RevokeTable.covers.Goals as goal
 
--- up to the number that was noted
+-- covered up to the noted number
 pub returns-in-Some : goal.returns-in-Some
 returns-in-Some c =
     let m = c.self.inside.greatest in
@@ -11,7 +11,7 @@ returns-in-Some c =
     let up_to = covers-up_to _ c.args.block c.args.tid _ there in
     rw (← c.self.view_is) (λ yes. up_to.1 (grind (arith, c.le.ensures, yes)), λ covers. let h = up_to.0 covers in grind (arith, c.le.ensures, h))
 
--- where none was noted, not at all
+-- not covered without a note
 pub returns-in-None : goal.returns-in-None
 returns-in-None c =
     let m = c.self.inside.greatest in

@@ -11,7 +11,7 @@ use Rattle.checkpoint.proofs.copies.Copies.find.Goals as goal
 abbrev copies : List Link → List QueuedCopy
 copies links = map (λ (l : Link). l.copy) links
 
--- the link before the one at the place is shown, and from that place on no copy of the block is live
+-- the link before is shown, and from the place on no copy of the block is live
 pub loop-place-preserved : goal.loop-place-preserved
 loop-place-preserved c =
     let links = c.self.inside.links.items in

@@ -4,7 +4,7 @@ use Rattle.checkpoint.specs.Chains.{Shows, buckets_of}
 use Rattle.checkpoint.specs.Copies.{is_live_of}
 use Rattle.checkpoint.proofs.copies.Copies.find.Given as goal
 
--- below the limit the place is shown for the block's bucket, and behind the limit no copy of the block is live
+-- below the limit the place is shown, and after it no copy of the block is live
 abbrev pub invariant-loop-place : goal.invariant-loop-place
 invariant-loop-place l =
     record {

@@ -66,7 +66,7 @@ returns-in-Some-clause-withdrawn c =
 pub returns-in-Some-clause-kept : goal.returns-in-Some-clause-kept
 returns-in-Some-clause-kept c = kept c
 
--- where no copy of the block is live, nothing changes
+-- if no copy of the block is live, nothing changes
 pub returns-in-None-clause-withdrawn : goal.returns-in-None-clause-withdrawn
 returns-in-None-clause-withdrawn c =
     let old = c.args.self.now in

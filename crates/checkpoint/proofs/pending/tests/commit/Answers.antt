@@ -11,7 +11,7 @@ use Rattle.checkpoint.specs.Pending.{PendingValue}
 use Rattle.checkpoint.specs.PendingView.{key_of}
 use Rattle.checkpoint.proofs.pending.tests.commit.Goals as goal
 
--- a test for a number does not mind the order
+-- the test for a number is symmetric
 any-flips : (x : ℕ) (xs : List ℕ) → list_any (λ y. nat_eq y x) xs ≡ list_any (nat_eq x) xs
 any-flips x [] = refl
 any-flips x (y ∷ xs) = let same : nat_eq y x ≡ nat_eq x y = grind (arith, nat_tests) in rw (same, any-flips x xs) refl

@@ -4,7 +4,7 @@ use Rattle.checkpoint.specs.declared.copies.QueuedCopy.{QueuedCopy}
 use Rattle.checkpoint.specs.PendingView.{key_of}
 use Rattle.checkpoint.proofs.pending.tests.is_later.Goals as goal
 
--- each key is of a lower transaction where each copy is
+-- each key is of a lower transaction if each copy is
 each-lower : (tid : ℕ) (cs : List QueuedCopy) → ((k : ℕ) (c : QueuedCopy) → k < length cs → slice_get cs k ≡ Some c → c.tid < tid) → AllByRecursion (λ k. k.0 < tid) (map key_of cs)
 each-lower tid [] lower = tt
 each-lower tid (c ∷ cs) lower = (lower 0 c (omega arith) refl, each-lower tid cs (λ k d below here. lower (suc k) d (omega arith) here))

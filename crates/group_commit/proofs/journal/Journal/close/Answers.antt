@@ -13,7 +13,6 @@ use Rattle.group_commit.proofs.OwnCalls.{calls-closed}
 use Rattle.group_commit.proofs.TurnMoments.{each-closed}
 use Rattle.group_commit.proofs.journal.Journal.close.Goals as goal
 
--- the log is clean and opens to everything
 pub returns-in-Ok-clause-closed : goal.returns-in-Ok-clause-closed
 returns-in-Ok-clause-closed g c =
     subst

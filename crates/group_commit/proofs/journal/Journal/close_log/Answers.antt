@@ -11,7 +11,6 @@ use Rattle.journal_steps.proofs.LegalSteps.{legal-sealed}
 use Rattle.group_commit.proofs.TurnMoments.{each-closing}
 use Rattle.group_commit.proofs.journal.Journal.close_log.Goals as goal
 
--- the log is clean and opens to everything sealed
 pub returns-in-Ok-clause-closed : goal.returns-in-Ok-clause-closed
 returns-in-Ok-clause-closed g c =
     let f = c.self.inside.front in
@@ -77,7 +76,6 @@ returns-in-Ok-clause-opens g c =
     subst (λ (ts : History). OpensOver e.shape ts c.committed-committed.result (length ts) disk) (sym c.into_sealed-sealed.ensures)
     (subst (λ (n : ℕ). OpensOver e.shape f.sealed n (length f.sealed) disk) count (opens-closed f e disk c.self.invariant.0 (closed (back honest)).opens)))
 
--- the engine's moves are the journal's
 pub returns-in-Ok-clause-moves : goal.returns-in-Ok-clause-moves
 returns-in-Ok-clause-moves g c =
     let f = c.self.inside.front in
@@ -118,7 +116,6 @@ returns-in-Ok-clause-calls g c = rw (← c.self.view_is) (c.self.invariant.0, c.
 pub returns-in-Err-clause-calls : goal.returns-in-Err-clause-calls
 returns-in-Err-clause-calls g c = rw (← c.self.view_is) (c.self.invariant.0, c.in-Err.ensures.calls)
 
--- the moments are the engine's too
 pub returns-in-Ok-clause-moments : goal.returns-in-Ok-clause-moments
 returns-in-Ok-clause-moments g c =
     let f = c.self.inside.front in

@@ -15,7 +15,6 @@ returns-in_err-mark-clause-err g c =
     let p = err_from_is_err_and c.from_residual-in_err-mark.result c.from_residual-in_err-mark.ensures.1 in
     rw (p.1, p.2) (CommitRefused.Unfinished _ c.in_ok-request_commit.ensures.ok c.in_err-mark.ensures.err)
 
--- the moves: the lock, then those of the turns
 pub returns-in_err-mark-clause-path : goal.returns-in_err-mark-clause-path
 returns-in_err-mark-clause-path g c =
     ways g.D.Device.state _ _ _ (asked-way g.D.Device.state _ _ _ c.in_ok-request_commit.ensures.ok) c.commit_all.ensures.path

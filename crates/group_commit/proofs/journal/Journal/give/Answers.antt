@@ -3,7 +3,6 @@ use Rattle.journal_steps.proofs.Kept.{kept-give_back, kept-same, kept-step}
 use Rattle.journal_steps.proofs.LegalSteps.{kept_legal-give_back, kept_legal-same, kept_legal-step}
 use Rattle.group_commit.proofs.journal.Journal.give.Goals as goal
 
--- front and engine agree after an extension
 pub invariant_of-self : goal.invariant_of-self
 invariant_of-self g c = (
   kept-step c.self.inside.front c.give.new.self c.self.inside.engine.engine c.self.invariant.0 (ExtendHandle c.args.handle.now.number c.args.credits)

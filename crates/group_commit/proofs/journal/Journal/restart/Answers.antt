@@ -5,7 +5,6 @@ use Rattle.journal_front.specs.Values.{HandleValue}
 use Rattle.journal_steps.specs.Values.{JournalValue}
 use Rattle.group_commit.proofs.journal.Journal.restart.Goals as goal
 
--- the handle is stopped, and another one joins
 pub returns-in-Ok-clause-ok : goal.returns-in-Ok-clause-ok
 returns-in-Ok-clause-ok g c =
     let stop = c.stop-ticket.ensures in

@@ -6,7 +6,7 @@ use Rattle.journal_model.specs.Transaction.{later}
 use Rattle.journal_front.proofs.EntriesOfSteps.{lookup-effect}
 use Rattle.journal_front.proofs.transaction.Transaction.newest.Goals as goal
 
--- the newer of two is the later one, where there is a later one
+-- the newer of two entries is the later one, if there is one
 newer-later : (new old : Option Entry) → option_or new old ≡ later old new
 newer-later None old = refl
 newer-later (Some e) old = refl

@@ -22,7 +22,6 @@ returns-then-ledger-clause-moments g c =
     let all = subst (λ (v : EngineValue g.row.D.Denot). IsAllReleased v.engine) (sym c.self.view_is) c.requires in
     rw (← c.self.view_is) (λ honest. each-unclosed _ _ (c.self.invariant.2 honest) all.idle)
 
--- a clean log is closed already
 pub returns-then-not-ledger-clause-closed : goal.returns-then-not-ledger-clause-closed
 returns-then-not-ledger-clause-closed g c =
     let all = subst (λ (v : EngineValue g.row.D.Denot). IsAllReleased v.engine) (sym c.self.view_is) c.requires in
@@ -36,7 +35,6 @@ returns-then-not-ledger-clause-moments g c =
 pub write_first-requires-clause-there : goal.write_first-requires-clause-there
 write_first-requires-clause-there g c = round-log _ c.self.invariant.0.plain
 
--- the machine makes the same calls
 pub returns-in-Ok-clause-ok : goal.returns-in-Ok-clause-ok
 returns-in-Ok-clause-ok g c =
     let before = g.D.Device.state c.self.inside.device in

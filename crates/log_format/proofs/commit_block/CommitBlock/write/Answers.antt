@@ -1,4 +1,4 @@
--- The header stands in front, and zeros behind it.
+-- The header stands in front, and zeros after it.
 use Rattle.std.proofs.Common.{◌≡◌, ℕ, length, arith, refl, ap, sym, ◌∙◌}
 use Rattle.journal_model.specs.Layout.{header, commit_type, padded}
 use Rattle.log_model.specs.OwnText.{commit_block}

@@ -1,4 +1,4 @@
--- The tags so far, and one more, are those that the block begins with; where no tag can follow, there are none.
+-- The tags so far, and one more, begin the block; if no tag can follow, there are none.
 use Rattle.std.proofs.Common.{◌≡◌, ◌<◌, ◌≤◌, ◌+◌, ◌-◌, ℕ, List, true, false, length, take, drop, subst, sym, ap, ◌∙◌, arith, drop-drop, get_or-set_same, length-set, length-drop}
 use Rattle.std.proofs.lemmas.List.{take_more_set, take_rest}
 use Rattle.std.proofs.lemmas.Result.{err_from_is_err_and}

@@ -1,4 +1,4 @@
--- The tags so far are those that the block begins with, and the others begin at the place.
+-- The tags so far begin the block, and the others begin at the place.
 use Rattle.std.proofs.Common.{◌≤◌, ◌+◌, ◌*◌, length, take, drop}
 use Rattle.journal_model.specs.Layout.{tag_bytes}
 use Rattle.log_format.specs.Size.{count_of}

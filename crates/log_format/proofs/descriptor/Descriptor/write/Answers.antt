@@ -1,4 +1,4 @@
--- Each tag stands behind those before it, and zeros behind the last.
+-- Each tag stands after those before it, and zeros after the last.
 use Rattle.std.proofs.Common.{◌≡◌, ◌<◌, ◌≤◌, ◌++◌, [], ℕ, List, length, take, arith, ap, ap₂, ◌∙◌, length-drop, length-append, length-take}
 use Rattle.std.specs.List.{flat_map}
 use Rattle.std.proofs.lemmas.List.{take_rest, take_all}

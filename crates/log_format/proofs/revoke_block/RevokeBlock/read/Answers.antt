@@ -1,4 +1,4 @@
--- The numbers so far, and one more, are the block's; where one is not below the home count, it has no others.
+-- The numbers so far, and one more, are the block's; if one is outside home, it has none.
 use Rattle.std.proofs.Common.{◌≡◌, ◌<◌, ◌-◌, ◌+◌, ◌*◌, ◌/◌, ◌∷◌, [], ◌++◌, ℕ, List, length, take, arith, ap, sym, ◌∙◌}
 use Rattle.std.proofs.lemmas.List.{length-take-le, take_more_set}
 use Rattle.std.proofs.lemmas.List.Elements.{All-get_or, All-push}

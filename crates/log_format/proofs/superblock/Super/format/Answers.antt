@@ -1,4 +1,4 @@
--- The header, the fields and the UUID stand one behind the other, and zeros behind them.
+-- Header, fields, UUID and zeros stand in a row.
 use Rattle.std.proofs.Common.{◌≡◌, ℕ, List, length, arith, refl, ap₂, ◌∙◌}
 use Rattle.log_model.specs.Superblock.{formatted_super}
 use Rattle.log_format.proofs.Formatting.{formatted}

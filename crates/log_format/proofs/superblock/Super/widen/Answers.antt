@@ -1,4 +1,4 @@
--- The features stand in the place of others, and the rest is as it was.
+-- The features replace others, and the rest is as it was.
 use Rattle.std.proofs.Common.{◌∙◌, arith, append_assoc, drop, sym, take}
 use Rattle.journal_model.specs.Layout.{big_endian}
 use Rattle.log_model.specs.Superblock.{wide_features, widened}

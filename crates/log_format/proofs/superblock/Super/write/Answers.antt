@@ -1,4 +1,4 @@
--- The two fields stand one behind the other, and the rest is as it was.
+-- The two fields stand in a row, and the rest is as it was.
 use Rattle.std.proofs.Common.{◌-◌, ℕ, List, length, arith, refl, ◌∙◌}
 use borrow.Rule.Slice.PartMut.{put_mid}
 use Rattle.journal_model.specs.Layout.{big_endian}

@@ -8,7 +8,7 @@ overflow_add-k c =
     let next = on-next c.args.self.now _ c.requires.can_run c.args.k c.requires.stage in
     omega arith
 
--- behind the last but one all are to be flushed, and then the commit block is written
+-- after the last but one all are flushed, and then the commit block is written
 pub returns-else-k-blocks_due : goal.returns-else-k-blocks_due
 returns-else-k-blocks_due c = λ shape same.
     let blocks = c.blocks_due.ensures shape same in

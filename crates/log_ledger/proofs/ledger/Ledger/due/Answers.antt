@@ -41,7 +41,7 @@ returns-in-Blocks-clause-due c = λ shape same.
     let blocks = c.blocks_due.ensures shape (same ∙ sym (on-superblock c.args.self.now _ on)) in
     c.due_block.ensures.due shape same ∙ call-block (engine_of shape c.args.self.now) _ c.in-Blocks.is (omega arith)
 
--- the commit block
+-- the commit block is due
 pub returns-in-CommitWrite-clause-due : goal.returns-in-CommitWrite-clause-due
 returns-in-CommitWrite-clause-due c = λ shape same.
     let on = c.requires.can_run in

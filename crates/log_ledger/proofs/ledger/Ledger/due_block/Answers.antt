@@ -7,15 +7,15 @@ use Rattle.log_ledger.proofs.ledger.Ledger.due_block.Goals as goal
 pub batch_due-requires-clause-unreleased : goal.batch_due-requires-clause-unreleased
 batch_due-requires-clause-unreleased c = on-unreleased c.args.self.now _ c.requires.can_run
 
--- the layout is one that is taken
+-- the layout is an allowed one
 pub write_block-requires-clause-taken : goal.write_block-requires-clause-taken
 write_block-requires-clause-taken c = on-taken c.args.self.now _ c.requires.can_run
 
--- of blocks of the writer's size
+-- its blocks have the writer's size
 pub write_block-requires-clause-size : goal.write_block-requires-clause-size
 write_block-requires-clause-size c = on-layout c.args.self.now _ c.requires.can_run
 
--- it has the plan that was made for it
+-- the plan is that of the batch
 pub write_block-requires-clause-plan : goal.write_block-requires-clause-plan
 write_block-requires-clause-plan c = c.requires.plan c.requires.can_run.shape _ c.batch_due.ensures
 
@@ -23,7 +23,7 @@ write_block-requires-clause-plan c = c.requires.plan c.requires.can_run.shape _ 
 pub write_block-requires-clause-whole : goal.write_block-requires-clause-whole
 write_block-requires-clause-whole c = on-whole c.args.self.now _ c.requires.can_run _ c.batch_due.ensures
 
--- of numbers that a tag can spell
+-- a tag can spell its blocks
 pub write_block-requires-clause-spelled : goal.write_block-requires-clause-spelled
 write_block-requires-clause-spelled c = on-spelled c.args.self.now _ c.requires.can_run _ c.batch_due.ensures
 
@@ -31,7 +31,7 @@ write_block-requires-clause-spelled c = on-spelled c.args.self.now _ c.requires.
 pub write_block-requires-clause-few : goal.write_block-requires-clause-few
 write_block-requires-clause-few c = on-few c.args.self.now _ c.requires.can_run _ c.batch_due.ensures
 
--- its positions are far from the end of the numbers of 64 bits
+-- its positions are far below 2 ^ 64
 pub overflow_add-self : goal.overflow_add-self
 overflow_add-self c =
     let on = c.requires.can_run in
@@ -39,7 +39,7 @@ overflow_add-self c =
     let small = on-small c.args.self.now _ on on.shape (sym on.size_is) in
     omega arith
 
--- the block goes to a place of the ring, which lies within the log
+-- the block goes to a place of the ring
 pub returns-clause-fits : goal.returns-clause-fits
 returns-clause-fits c = λ shape can same.
     let within = (runs-ring _ can).within in

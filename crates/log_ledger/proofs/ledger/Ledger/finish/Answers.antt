@@ -27,7 +27,7 @@ commit-requires-clause-distinct c =
     subst (λ (es : List (ℕ × Entry)). IsDistinct nat_eq (map (λ e. e.0) es)) (sym c.as_slice.ensures)
     (on-distinct l _ on c.index-batch.result.now there)
 
--- their transaction is later than each before it
+-- their transaction is later than each before
 pub commit-requires-clause-later : goal.commit-requires-clause-later
 commit-requires-clause-later c =
     let l = c.args.self.now in
@@ -36,7 +36,7 @@ commit-requires-clause-later c =
     subst (λ (n : ℕ). AllByRecursion (λ k. k.0 < n) l.pending.queue) (sym c.number_due-number.ensures)
     (on-commit l _ on c.index-batch.result.now c.requires.stage there).0
 
--- and there is room for their copies
+-- there is room for their copies
 pub commit-requires-clause-room : goal.commit-requires-clause-room
 commit-requires-clause-room c =
     let l = c.args.self.now in

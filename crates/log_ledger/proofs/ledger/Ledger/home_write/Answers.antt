@@ -38,7 +38,7 @@ returns-clause-due c = λ shape runs.
     c.copy-2.result.now ≡ placed.bytes) c.copy.view_is (c.copy-2.ensures shape n.index c.args.copy.block) n.number n.placed in
     due-copy e l.pending due.transaction due.block c.args.copy _ _ due.round n (ap (λ (h : HomeCopy). h.block) c.copy.view_is) (c.put.ensures.block ∙ bytes)
 
--- of a block of home
+-- it goes to a block of home
 pub returns-clause-fits : goal.returns-clause-fits
 returns-clause-fits c = λ shape runs.
     let l = c.args.self.now in

@@ -8,7 +8,7 @@ use Rattle.log_ledger.proofs.Running.{head-small}
 use Rattle.log_ledger.proofs.Outcomes.{at-ok}
 use Rattle.log_ledger.proofs.ledger.Ledger.take.Goals as goal
 
--- where memory runs out nothing changes
+-- if memory runs out, nothing changes
 pub returns-then-is_err-clause-kept : goal.returns-then-is_err-clause-kept
 returns-then-is_err-clause-kept c = c.reserve.ensures.items ∙ c.requires.room.1.kept
 
@@ -18,7 +18,7 @@ push_back_reserved-requires c =
     let room = at-ok c.reserve.result (sym c.is_err.ensures.value ∙ c.if-is_err.false) c.reserve.ensures.ok in
     omega arith
 
--- the head is far from the end of the numbers of 64 bits
+-- the head is far below 2 ^ 64
 pub take-never_fails-requires : goal.take-never_fails-requires
 take-never_fails-requires c =
     let small = head-small (engine_of c.requires.room.0 c.args.self.now) c.requires.room.1.plain in
@@ -34,7 +34,7 @@ returns-clause-ok c = λ shape.
     ap (λ (r : RingValue). record (engine_of shape l) { ring = r.ring; tail = r.tail; accepted = c.push.new.self.items; stage = c.first_stage-self.result }) taken
     ∙ ap₂ (λ (bs : List Batch) (stage : Stage). record (engine_of shape l) { accepted = bs; stage = stage }) c.push.ensures c.first_stage-self.ensures
 
--- and the head is behind them
+-- the head is after them
 pub returns-clause-head : goal.returns-clause-head
 returns-clause-head c =
     let l = c.args.self.now in

@@ -42,7 +42,7 @@ overflow_add-copy-inside c =
     let block = ap (λ (h : HomeCopy). h.block) c.copy.view_is in
     omega arith
 
--- the round goes on behind the copy
+-- the round goes on after the copy
 pub returns-clause-gone : goal.returns-clause-gone
 returns-clause-gone c = λ shape runs.
     let l = c.args.self.now in

@@ -18,7 +18,7 @@ write-requires c =
     let size = round-size c.args.self.now _ c.requires.can_run in
     subst (λ (sb : List ℕ). IsBlockSize (length sb)) (sym c.deref_mut.ensures.value) size
 
--- the superblock names the place behind the round's transactions
+-- the superblock names the place after the round's transactions
 pub returns-clause-gone : goal.returns-clause-gone
 returns-clause-gone c = λ shape runs.
     let l = c.args.self.now in

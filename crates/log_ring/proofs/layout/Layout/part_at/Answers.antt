@@ -4,7 +4,7 @@ use Rattle.log_ring.specs.Parts.{LayoutValue}
 use Rattle.log_ring.proofs.PartPlaces.{commit-stands, copy-stands}
 use Rattle.log_ring.proofs.layout.Layout.part_at.Goals as goal
 
--- descriptors and copies stand behind the revoke blocks
+-- descriptors and copies stand after the revoke blocks
 pub returns-then-behind-self : goal.returns-then-behind-self
 returns-then-behind-self c =
     let v = c.args.self.now in

@@ -6,7 +6,7 @@ use Rattle.log_ring.specs.Parts.{LayoutValue}
 use Rattle.log_ring.proofs.PartPlaces.{revoke-within, revokes-at}
 use Rattle.log_ring.proofs.layout.Layout.revoke_part.Goals as goal
 
--- the block is the one at its place, and it has some of the revokes
+-- the block at its place has some of the revokes
 pub returns : goal.returns
 returns c =
     let l = c.self.inside.layout in

@@ -2,7 +2,7 @@ use Rattle.std.proofs.Common.{ap, sym, ◌∙◌, ◌+◌, ◌%◌, ℕ}
 use Rattle.std.proofs.Math.Nat.{add-mod}
 use Rattle.log_ring.proofs.ring.Ring.advance.Goals as goal
 
--- a sum may be taken round the ring part by part
+-- a sum may be reduced part by part
 pub returns-clause-place : goal.returns-clause-place
 returns-clause-place c =
     let first = c.self.inside.first in

@@ -17,7 +17,7 @@ returns-then-position-blocks-clause-found g c = λ honest.
     found-none (layout_of c.args.log.now) (limit_of c.args.log.now c.args.home_blocks) c.args.sequence _ c.args.self.now
     (from-end c.args.log.now (reading (g.D.Device.state c.args.device.now).disk) c.args.position (omega arith))
 
--- the block at the position was read, where the device is honest
+-- the block at the position was read, if reads are correct
 pub returns-clause-found : goal.returns-clause-found
 returns-clause-found g c = λ honest.
     let s : Super = c.args.log.now in
