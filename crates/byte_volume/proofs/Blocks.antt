@@ -1,0 +1,21 @@
+-- A block with an unfinished revoke reads as zeros.
+use Rattle.std.proofs.Common.{◌≡◌, sym, subst, ℕ, List, length, replicate}
+use Rattle.journal_model.specs.declared.refusal.JournalError.{JournalError}
+use Rattle.journal_model.specs.declared.refusal.JournalError.TheVariants.{Revoked}
+use Rattle.block_device.specs.State.{DeviceState}
+use Rattle.journal_steps.specs.Journal.{NewestRefused}
+use Rattle.journal_steps.specs.Values.{JournalValue}
+use Rattle.shared_journal.specs.Moments.{AtOneMoment}
+use Rattle.volume_service.specs.Session.{RefusedBytes}
+use Rattle.volume_service.specs.Session.RefusedBytes.{ByJournal, NoBlockOfBytes}
+use Rattle.byte_volume.specs.Reading.{ReadsBlock}
+use Rattle.byte_volume.specs.Reading.ReadsBlock.{Zeros}
+
+-- a read was refused for a revoke; then the buffer of one block was filled with zeros
+pub zeros : {D : Type 0} (state : D → DeviceState) (honest : D → Type 0) (size b n m : ℕ) (e : JournalError) (v : List ℕ) → n ≡ size → e ≡ Revoked →
+    RefusedBytes n size e (AtOneMoment (λ (old new : JournalValue D). NewestRefused state old b new e)) → v ≡ replicate m 0 → length v ≡ m →
+    ReadsBlock state honest b v
+zeros state honest size b n m e v whole is (NoBlockOfBytes other bad) filled count = absurd (other whole)
+zeros {D} state honest size b n m e v whole is (ByJournal same why) filled count =
+    Zeros (subst (λ (f : JournalError). AtOneMoment (λ (old new : JournalValue D). NewestRefused state old b new f)) is why)
+    (subst (λ (k : ℕ). v ≡ replicate k 0) (sym count) filled)

@@ -1,0 +1,5 @@
+pub mod Blocks
+pub mod Overlays
+pub mod Pieces
+pub mod Ranges
+pub mod Revokes

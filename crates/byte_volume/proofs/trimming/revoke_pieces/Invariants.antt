@@ -1,0 +1,15 @@
+use Rattle.std.proofs.Common.{◌≤◌, ◌-◌}
+use Rattle.byte_volume.specs.Writing.{RevokesBlocks}
+use Rattle.byte_volume.proofs.trimming.revoke_pieces.Given as goal
+
+-- this many blocks are revoked; noted handles stay noted
+abbrev pub invariant-loop-done : goal.invariant-loop-done
+invariant-loop-done g l = record {
+  within : l.done ≤ l.blocks;
+  kept : l.fn.stopped ≤ l.stopped;
+  revoked : RevokesBlocks l.first l.stopped l.done;
+}
+
+-- fewer blocks are left
+abbrev pub decreases-loop-done : goal.decreases-loop-done
+decreases-loop-done g l = l.blocks - l.done

@@ -1,0 +1,40 @@
+-- What a read of a byte range gives.
+use Rattle.std.specs.Prelude.{◌≡◌, ◌≤◌, ◌<◌, ◌+◌, ◌/◌, ◌%◌, ◌++◌, ℕ, List, [], length, take, drop, replicate}
+use Rattle.journal_model.specs.declared.refusal.JournalError.TheVariants.{Revoked}
+use Rattle.block_device.specs.State.{DeviceState}
+use Rattle.journal_steps.specs.Journal.{NewestRefused, ReadsNewest}
+use Rattle.journal_steps.specs.Values.{JournalValue}
+use Rattle.shared_journal.specs.Moments.{AtOneMoment}
+
+-- at one moment under the lock, a read of the block's newest bytes gave these; or the block has an unfinished revoke, and they are zeros
+pub data ReadsBlock {D : Type 0} (state : D → DeviceState) (honest : D → Type 0) (b : ℕ) (v : List ℕ) : Type 0 where
+  Newest : AtOneMoment (λ (old new : JournalValue D). ReadsNewest state honest old b v new) → ReadsBlock state honest b v
+  Zeros : AtOneMoment (λ (old new : JournalValue D). NewestRefused state old b new Revoked) → v ≡ replicate (length v) 0 → ReadsBlock state honest b v
+
+-- n bytes of a block, from this place in it on
+pub record ReadsPart {D : Type 0} (state : D → DeviceState) (honest : D → Type 0) (size b from n : ℕ) (part : List ℕ) : Type 0 where
+  pub block : List ℕ
+  pub reads : ReadsBlock state honest b block
+  pub whole : length block ≡ size
+  pub fits : from + n ≤ size
+  pub part_is : part ≡ take n (drop from block)
+
+-- a list grew by such bytes
+pub record AddsPart {D : Type 0} (state : D → DeviceState) (honest : D → Type 0) (size b from n : ℕ) (old new : List ℕ) : Type 0 where
+  pub part : List ℕ
+  pub reads : ReadsPart state honest size b from n part
+  pub added : new ≡ old ++ part
+
+-- the volume's bytes from this one on: each next stretch lies in one block, and a read of that block gave it
+pub data ReadsRange {D : Type 0} (state : D → DeviceState) (honest : D → Type 0) (size offset : ℕ) : List ℕ → Type 0 where
+  NoByte : ReadsRange state honest size offset []
+  Further : (before part bytes : List ℕ) → ReadsRange state honest size offset before →
+      ReadsPart state honest size ((offset + length before) / size) ((offset + length before) % size) (length part) part →
+      bytes ≡ before ++ part → ReadsRange state honest size offset bytes
+
+-- a list grew by n such bytes
+pub record AddsRange {D : Type 0} (state : D → DeviceState) (honest : D → Type 0) (size offset n : ℕ) (old new : List ℕ) : Type 0 where
+  pub bytes : List ℕ
+  pub range : ReadsRange state honest size offset bytes
+  pub count : length bytes ≡ n
+  pub added : new ≡ old ++ bytes

@@ -1,0 +1,111 @@
+//! Revokes the whole blocks of a byte range.
+ghost use Rattle.std.specs.Prelude.{◌≡◌, ◌≤◌, ◌<◌, ◌+◌, ◌^◌, ◌++◌, IfOk, OnOk};
+ghost use Rattle.byte_volume.specs.Writing.{RevokesBlocks, first_whole, revoke_steps, whole_blocks};
+
+use crate::stopped::Stopped;
+use block_device::Device;
+use journal_model::{BlockNo, JournalError};
+use journal_workers::Gate;
+use shared_journal::{Handle, JournalName, Record, Ticket};
+use std::sync::Wait;
+use volume_service::Session;
+
+/// Revokes exactly the blocks that lie whole in a byte range, and writes nothing. A block reads as zeros until its revoke is finished, then
+/// as home has it.
+///
+/// # Errors
+///
+/// Those of `revoke_blocks`. Handles that revoked the first blocks have stopped, and are noted.
+pub fn trim_range<J: JournalName, D: Device, R: Record, G: Gate, W: Wait>(
+    rt: &W,
+    session: &mut Session<'_, J, D, R, G>,
+    offset: u64,
+    count: u64,
+    stopped: &mut Stopped,
+) -> Result<(), JournalError>
+    ensures blocks { OnOk result (RevokesBlocks (first_whole J.name.shape.block_size offset) stopped.new (whole_blocks J.name.shape.block_size offset count)) }
+    ensures kept { stopped.old ≤ stopped.new }
+{
+    let Some(end) = offset.checked_add(count) else {
+        return Err(JournalError::BadBlock);
+    };
+    let size = session.block_size() as u64;
+    let first = offset.div_ceil(size);
+    revoke_pieces(
+        rt,
+        session,
+        first,
+        (end / size).saturating_sub(first),
+        stopped,
+    )
+}
+
+/// Revokes this many blocks from block `first` on, through one or more handles, in order.
+#[tactic(auto, using(crate::proofs::Revokes::no_block))]
+fn revoke_pieces<J: JournalName, D: Device, R: Record, G: Gate, W: Wait>(
+    rt: &W,
+    session: &mut Session<'_, J, D, R, G>,
+    first: u64,
+    blocks: u64,
+    stopped: &mut Stopped,
+) -> Result<(), JournalError>
+    requires fits { first + blocks < 2 ^ 64 }
+    ensures blocks { OnOk result (RevokesBlocks first stopped.new blocks) }
+    ensures kept { stopped.old ≤ stopped.new }
+{
+    let mut done = 0;
+    while done < blocks {
+        let some = session.capacity().min(blocks - done);
+        let _ticket = revoke_blocks(rt, session, first + done, some, stopped)?;
+        done += some;
+    }
+    Ok(())
+}
+
+/// Revokes this many blocks from block `first` on through one handle, which is stopped and noted even if a revoke is refused.
+///
+/// # Errors
+///
+/// `TooMany`: one handle cannot have so many credits. `BadBlock`: home has no such block, or the numbers pass 2^64. `Aborted`: a device
+/// failure. `SequenceEnd`. `Memory`. The handle may have revoked the first blocks.
+pub fn revoke_blocks<J: JournalName, D: Device, R: Record, G: Gate, W: Wait>(
+    rt: &W,
+    session: &mut Session<'_, J, D, R, G>,
+    first: u64,
+    count: u64,
+    stopped: &mut Stopped,
+) -> Result<Ticket<J, R>, JournalError>
+    ensures steps { IfOk result (λ ticket. ticket.steps ≡ revoke_steps ticket.ticket.handle first count) }
+    ensures noted { IfOk result (λ ticket. ticket.ticket.tid ≤ stopped.new) }
+    ensures kept { stopped.old ≤ stopped.new }
+{
+    if first.checked_add(count).is_none() {
+        return Err(JournalError::BadBlock);
+    }
+    let mut handle = session.start(rt, count)?;
+    let revoked = revoke_all(rt, session, &mut handle, first, count);
+    let ticket = session.stop(rt, handle);
+    stopped.note(ticket.tid());
+    match revoked {
+        Ok(()) => Ok(ticket),
+        Err(e) => Err(e),
+    }
+}
+
+/// Revokes blocks through a handle.
+fn revoke_all<'s, J: JournalName, D: Device, R: Record, G: Gate, W: Wait>(
+    rt: &W,
+    session: &Session<'s, J, D, R, G>,
+    handle: &mut Handle<'s, J, R>,
+    first: u64,
+    count: u64,
+) -> Result<(), JournalError>
+    requires fits { first + count < 2 ^ 64 }
+    ensures number { OnOk result (handle.new.handle.number ≡ handle.old.handle.number) }
+    ensures steps { OnOk result (handle.new.steps ≡ handle.old.steps ++ revoke_steps handle.old.handle.number first count) }
+{
+    for k in 0..count {
+        session.revoke(rt, handle, BlockNo(first + k))?;
+    }
+    Ok(())
+}

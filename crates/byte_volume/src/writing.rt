@@ -1,0 +1,311 @@
+//! Writes byte ranges.
+ghost use Rattle.std.specs.Prelude.{◌≡◌, ◌≤◌, ◌<◌, ◌+◌, ◌/◌, ◌%◌, ◌^◌, ◌++◌, true, false, length, replicate, IfOk, OnOk};
+ghost use Rattle.byte_volume.specs.Writing.{AddsHead, AddsTail, IsOverlay, LieWithin, WritesAll, WritesOnce, WritesPieces, WritesRange, write_steps};
+
+use crate::reading::read_part;
+use crate::stopped::Stopped;
+use block_device::Device;
+use journal_model::{BlockNo, JournalError};
+use journal_workers::Gate;
+use shared_journal::{Handle, JournalName, Record, Ticket};
+use std::alloc::Global;
+use std::sync::Wait;
+use volume_service::Session;
+
+/// Writes bytes from byte `offset` on. If one handle has credits for the range's blocks, it alone writes exactly these, each whole; the
+/// rest of the first and last stays as a read finds it. A longer range is written in pieces, in order, each by such a handle. Other clients
+/// may write a block between the read of its rest and the write.
+///
+/// # Errors
+///
+/// `BadBlock`: home has no such block, or the range ends past 2^64. `Device`: the rest of a block could not be read. `Aborted`: a device
+/// failure. `SequenceEnd`. `Memory`. Handles that wrote the first pieces have stopped, and are noted. So has the refused one, if it was
+/// started: it may have written the first blocks of its piece.
+#[tactic(auto, using(crate::proofs::Pieces::not_within))]
+pub fn write_range<J: JournalName, D: Device, R: Record, G: Gate, W: Wait>(
+    rt: &W,
+    alloc: Global,
+    session: &mut Session<'_, J, D, R, G>,
+    offset: u64,
+    bytes: &[u8],
+    stopped: &mut Stopped,
+) -> Result<(), JournalError>
+    ensures once { OnOk result (WritesAll D.state D.honest J.name.shape.block_size J.name.capacity offset bytes.now stopped.new) }
+    ensures kept { stopped.old ≤ stopped.new }
+{
+    if offset.checked_add(bytes.len() as u64).is_none() {
+        return Err(JournalError::BadBlock);
+    }
+    if lie_within(
+        session.block_size(),
+        offset,
+        bytes.len(),
+        session.capacity(),
+    ) {
+        let _ticket = write_once(rt, alloc, session, offset, bytes, stopped)?;
+        return Ok(());
+    }
+    write_pieces(rt, alloc, session, offset, bytes, stopped)?;
+    Ok(())
+}
+
+/// False only if these bytes lie in more blocks.
+fn lie_within(size: usize, offset: u64, count: usize, blocks: u64) -> bool
+    requires some { 0 < size }
+    requires fits { offset + count < 2 ^ 64 }
+    ensures { result ≡ false → LieWithin size offset count blocks → ⊥ }
+{
+    let end = offset + count as u64;
+    let (first, past) = (offset / size as u64, end.div_ceil(size as u64));
+    past <= first || past - first <= blocks
+}
+
+/// Writes a byte range through one handle.
+///
+/// # Errors
+///
+/// Those of `write_range`; `TooMany`: the range needs more credits than one handle can have.
+fn write_once<J: JournalName, D: Device, R: Record, G: Gate, W: Wait>(
+    rt: &W,
+    alloc: Global,
+    session: &mut Session<'_, J, D, R, G>,
+    offset: u64,
+    bytes: &[u8],
+    stopped: &mut Stopped,
+) -> Result<Ticket<J, R>, JournalError>
+    ensures once { IfOk result (λ ticket. WritesRange D.state D.honest J.name.shape.block_size offset bytes.now ticket) }
+    ensures noted { IfOk result (λ ticket. ticket.ticket.tid ≤ stopped.new) }
+    ensures kept { stopped.old ≤ stopped.new }
+{
+    let size = session.block_size() as u64;
+    let Some(end) = offset.checked_add(bytes.len() as u64) else {
+        return Err(JournalError::BadBlock);
+    };
+    if offset % size == 0 && end % size == 0 {
+        return write_blocks(rt, session, offset / size, bytes, stopped);
+    }
+    let whole = overlay(rt, alloc, session, offset, bytes)?;
+    write_blocks(rt, session, offset / size, &whole, stopped)
+}
+
+/// Whole blocks: these bytes, the rest of their first block before them and that of their last after them, as a read finds it.
+fn overlay<J: JournalName, D: Device, R: Record, G: Gate, W: Wait>(
+    rt: &W,
+    alloc: Global,
+    session: &Session<'_, J, D, R, G>,
+    offset: u64,
+    bytes: &[u8],
+) -> Result<Vec<u8>, JournalError>
+    requires fits { offset + length bytes.now < 2 ^ 64 }
+    ensures { IfOk result (λ whole. IsOverlay D.state D.honest J.name.shape.block_size offset bytes.now whole.items) }
+{
+    let mut whole = Vec::new(alloc);
+    add_head(rt, alloc, session, offset, &mut whole)?;
+    whole.extend_from_slice(bytes)?;
+    let end = offset + bytes.len() as u64;
+    add_tail(rt, alloc, session, end, &mut whole)?;
+    Ok(whole)
+}
+
+/// Adds the bytes before byte `at` in its block.
+fn add_head<J: JournalName, D: Device, R: Record, G: Gate, W: Wait>(
+    rt: &W,
+    alloc: Global,
+    session: &Session<'_, J, D, R, G>,
+    at: u64,
+    list: &mut Vec<u8>,
+) -> Result<(), JournalError>
+    ensures { OnOk result (AddsHead D.state D.honest J.name.shape.block_size at list.old.items list.new.items) }
+{
+    let size = session.block_size();
+    let from = (at % size as u64) as usize;
+    if from == 0 {
+        return Ok(());
+    }
+    let mut room = vec![in alloc; 0u8; size]?;
+    let block = at / size as u64;
+    read_part(rt, session, room.as_mut_slice(), block, 0, from, list)
+}
+
+/// Adds the bytes from byte `at` to the end of its block; none at a block boundary.
+fn add_tail<J: JournalName, D: Device, R: Record, G: Gate, W: Wait>(
+    rt: &W,
+    alloc: Global,
+    session: &Session<'_, J, D, R, G>,
+    at: u64,
+    list: &mut Vec<u8>,
+) -> Result<(), JournalError>
+    ensures { OnOk result (AddsTail D.state D.honest J.name.shape.block_size at list.old.items list.new.items) }
+{
+    let size = session.block_size();
+    let from = (at % size as u64) as usize;
+    if from == 0 {
+        return Ok(());
+    }
+    let mut room = vec![in alloc; 0u8; size]?;
+    let block = at / size as u64;
+    read_part(
+        rt,
+        session,
+        room.as_mut_slice(),
+        block,
+        from,
+        size - from,
+        list,
+    )
+}
+
+/// Writes whole blocks through one handle, which is stopped and noted even if a write is refused.
+fn write_blocks<J: JournalName, D: Device, R: Record, G: Gate, W: Wait>(
+    rt: &W,
+    session: &mut Session<'_, J, D, R, G>,
+    first: u64,
+    bytes: &[u8],
+    stopped: &mut Stopped,
+) -> Result<Ticket<J, R>, JournalError>
+    ensures steps { IfOk result (λ ticket. ticket.steps ≡ write_steps ticket.ticket.handle first J.name.shape.block_size bytes.now (length bytes.now / J.name.shape.block_size)) }
+    ensures noted { IfOk result (λ ticket. ticket.ticket.tid ≤ stopped.new) }
+    ensures kept { stopped.old ≤ stopped.new }
+{
+    let size = session.block_size();
+    let blocks = (bytes.len() / size) as u64;
+    if first.checked_add(blocks).is_none() {
+        return Err(JournalError::BadBlock);
+    }
+    let mut handle = session.start(rt, blocks)?;
+    let filled = fill(rt, session, &mut handle, first, bytes, size);
+    let ticket = session.stop(rt, handle);
+    stopped.note(ticket.tid());
+    match filled {
+        Ok(()) => Ok(ticket),
+        Err(e) => Err(e),
+    }
+}
+
+/// Writes whole blocks through a handle.
+fn fill<'s, J: JournalName, D: Device, R: Record, G: Gate, W: Wait>(
+    rt: &W,
+    session: &Session<'s, J, D, R, G>,
+    handle: &mut Handle<'s, J, R>,
+    first: u64,
+    bytes: &[u8],
+    size: usize,
+) -> Result<(), JournalError>
+    requires some { 0 < size }
+    requires fits { first + length bytes.now / size < 2 ^ 64 }
+    ensures number { OnOk result (handle.new.handle.number ≡ handle.old.handle.number) }
+    ensures steps { OnOk result (handle.new.steps ≡ handle.old.steps ++ write_steps handle.old.handle.number first size bytes.now (length bytes.now / size)) }
+{
+    for k in 0..bytes.len() / size {
+        let block = BlockNo(first + k as u64);
+        session.write(rt, handle, block, &bytes[k * size..k * size + size])?;
+    }
+    Ok(())
+}
+
+/// Writes a byte range through one or more handles, in order.
+#[tactic(auto, using(crate::proofs::Pieces::no_byte, crate::proofs::Pieces::all_bytes))]
+fn write_pieces<J: JournalName, D: Device, R: Record, G: Gate, W: Wait>(
+    rt: &W,
+    alloc: Global,
+    session: &mut Session<'_, J, D, R, G>,
+    offset: u64,
+    bytes: &[u8],
+    stopped: &mut Stopped,
+) -> Result<(), JournalError>
+    requires fits { offset + length bytes.now < 2 ^ 64 }
+    ensures pieces { OnOk result (WritesPieces D.state D.honest J.name.shape.block_size offset stopped.new bytes.now) }
+    ensures kept { stopped.old ≤ stopped.new }
+{
+    let mut done = 0;
+    while done < bytes.len() {
+        let at = offset + done as u64;
+        let most = piece_length(session.block_size(), session.capacity(), at);
+        let count = most.min(bytes.len() - done);
+        let _ticket = write_once(rt, alloc, session, at, &bytes[done..done + count], stopped)?;
+        done += count;
+    }
+    Ok(())
+}
+
+/// How many bytes one handle writes from byte `at` on.
+fn piece_length(size: usize, capacity: u64, at: u64) -> usize
+    requires size { 0 < size }
+    ensures { 0 < result }
+{
+    let before = (at % size as u64) as usize;
+    (capacity as usize)
+        .saturating_mul(size)
+        .saturating_sub(before)
+        .max(1)
+}
+
+/// Writes zeros, as `write_range` writes bytes. It takes memory for the zeros of one handle.
+///
+/// # Errors
+///
+/// Those of `write_range`.
+#[tactic(auto, using(crate::proofs::Pieces::zeros_not_within))]
+pub fn write_zeros<J: JournalName, D: Device, R: Record, G: Gate, W: Wait>(
+    rt: &W,
+    alloc: Global,
+    session: &mut Session<'_, J, D, R, G>,
+    offset: u64,
+    count: usize,
+    stopped: &mut Stopped,
+) -> Result<(), JournalError>
+    ensures once { OnOk result (WritesAll D.state D.honest J.name.shape.block_size J.name.capacity offset (replicate count 0) stopped.new) }
+    ensures kept { stopped.old ≤ stopped.new }
+{
+    if offset.checked_add(count as u64).is_none() {
+        return Err(JournalError::BadBlock);
+    }
+    if lie_within(session.block_size(), offset, count, session.capacity()) {
+        zero_once(rt, alloc, session, offset, count, stopped)?;
+        return Ok(());
+    }
+    zero_pieces(rt, alloc, session, offset, count, stopped)?;
+    Ok(())
+}
+
+/// Writes zeros through one handle.
+fn zero_once<J: JournalName, D: Device, R: Record, G: Gate, W: Wait>(
+    rt: &W,
+    alloc: Global,
+    session: &mut Session<'_, J, D, R, G>,
+    offset: u64,
+    count: usize,
+    stopped: &mut Stopped,
+) -> Result<(), JournalError>
+    ensures once { OnOk result (WritesOnce D.state D.honest J.name.shape.block_size offset (replicate count 0) stopped.new) }
+    ensures kept { stopped.old ≤ stopped.new }
+{
+    let zeros = vec![in alloc; 0u8; count]?;
+    let _ticket = write_once(rt, alloc, session, offset, &zeros, stopped)?;
+    Ok(())
+}
+
+/// Writes zeros through one or more handles, in order.
+#[tactic(auto, using(crate::proofs::Pieces::no_byte, crate::proofs::Pieces::more_zeros))]
+fn zero_pieces<J: JournalName, D: Device, R: Record, G: Gate, W: Wait>(
+    rt: &W,
+    alloc: Global,
+    session: &mut Session<'_, J, D, R, G>,
+    offset: u64,
+    count: usize,
+    stopped: &mut Stopped,
+) -> Result<(), JournalError>
+    requires fits { offset + count < 2 ^ 64 }
+    ensures pieces { OnOk result (WritesPieces D.state D.honest J.name.shape.block_size offset stopped.new (replicate count 0)) }
+    ensures kept { stopped.old ≤ stopped.new }
+{
+    let mut done = 0;
+    while done < count {
+        let at = offset + done as u64;
+        let most = piece_length(session.block_size(), session.capacity(), at);
+        let some = most.min(count - done);
+        zero_once(rt, alloc, session, at, some, stopped)?;
+        done += some;
+    }
+    Ok(())
+}

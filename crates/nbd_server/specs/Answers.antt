@@ -1,0 +1,63 @@
+-- What requests of a client do, and their answers.
+use Rattle.std.specs.Prelude.{◌≡◌, ◌≢◌, ◌≤◌, ◌<◌, ◌*◌, ℕ, List, Bool, true, false, length, replicate}
+use Rattle.block_device.specs.State.{DeviceState}
+use Rattle.journal_model.specs.Disk.{Shape}
+use Rattle.shared_journal.specs.Moments.{WasLastJoinedThen}
+use Rattle.byte_volume.specs.Reading.{AddsRange}
+use Rattle.byte_volume.specs.Writing.{RevokesBlocks, WritesAll, first_whole, whole_blocks}
+use Rattle.nbd_protocol.specs.declared.request.Request.{Request}
+use Rattle.nbd_protocol.specs.Layout.{simple_reply}
+use Rattle.nbd_protocol.specs.Requests.{IsTaken, WantsCommit}
+use Rattle.nbd_server.specs.declared.replies.Answer.{Answer}
+use Rattle.nbd_server.specs.declared.replies.Answer.TheVariants.{Bytes, Later, Now}
+use Rattle.nbd_server.specs.Owing.{DueValue}
+
+-- at one moment under the lock, this number was at least the last transaction that a handle had joined
+pub record CoversAll (D : Type 0) (upto : ℕ) : Type 0 where
+  pub last : ℕ
+  pub was_last : WasLastJoinedThen D last
+  pub no_less : last ≤ upto
+
+-- a request is owed an answer once all transactions up to a number are committed; every handle noted up to `stopped`, or joined by then,
+-- has at most this number
+pub record IsOwedTo (D : Type 0) (r : Request) (stopped : ℕ) (due : DueValue) : Type 0 where
+  pub cookie_is : due.cookie ≡ r.cookie
+  pub no_less : stopped ≤ due.upto
+  pub all : CoversAll D due.upto
+
+-- the owed answer: a success, only if the seen mark covers the number, or an error
+pub data Settles (due : DueValue) (seen : ℕ) (reply : List ℕ) (is_committed : Bool) : Type 0 where
+  AsCommitted : due.upto ≤ seen → reply ≡ simple_reply 0 due.cookie → is_committed ≡ true → Settles due seen reply is_committed
+  AsRefused : (e : ℕ) → e ≢ 0 → reply ≡ simple_reply e due.cookie → is_committed ≡ false → Settles due seen reply is_committed
+
+-- a change with some bytes did as it says: it wrote its bytes or zeros, or revoked the blocks that lie whole in its range. Any other
+-- request did nothing
+pub record IsDone {D : Type 0} (state : D → DeviceState) (honest : D → Type 0) (size capacity : ℕ) (r : Request) (bytes : List ℕ) (upto : ℕ) : Type 0 where
+  pub written : r.command ≡ 1 → 0 < r.length → WritesAll state honest size capacity r.offset bytes upto
+  pub zeroed : r.command ≡ 6 → 0 < r.length → WritesAll state honest size capacity r.offset (replicate r.length 0) upto
+  pub trimmed : r.command ≡ 4 → 0 < r.length → RevokesBlocks (first_whole size r.offset) upto (whole_blocks size r.offset r.length)
+
+-- a volume of this shape takes it, with at most the bytes that the volume has
+pub record IsTakenBy (shape : Shape) (read_only : Bool) (r : Request) : Type 0 where
+  pub bytes : ℕ
+  pub within : bytes ≤ shape.home_blocks * shape.block_size
+  pub taken : IsTaken bytes read_only r
+
+-- a request that the volume takes was performed; `bytes` followed a write, and handles up to this number are noted. The answer is a
+-- refusal; a read's bytes; success of a change that wants no commit; or, for one that does, owed
+pub data IsPerformed {D : Type 0} (state : D → DeviceState) (honest : D → Type 0) (size capacity : ℕ) (r : Request) (bytes : List ℕ) (upto : ℕ) (a : Answer) : Type 0 where
+  AsRefusal : (e : ℕ) → e ≢ 0 → a ≡ Now (simple_reply e r.cookie) → IsPerformed state honest size capacity r bytes upto a
+  AsRead : (reply : List ℕ) → r.command ≡ 0 → AddsRange state honest size r.offset r.length (simple_reply 0 r.cookie) reply → a ≡ Bytes reply →
+      IsPerformed state honest size capacity r bytes upto a
+  AsDone : r.command ≢ 0 → IsDone state honest size capacity r bytes upto → (WantsCommit r → ⊥) → a ≡ Now (simple_reply 0 r.cookie) →
+      IsPerformed state honest size capacity r bytes upto a
+  AsOwed : (due : DueValue) → r.command ≢ 0 → IsDone state honest size capacity r bytes upto → WantsCommit r → IsOwedTo D r upto due → a ≡ Later due →
+      IsPerformed state honest size capacity r bytes upto a
+
+-- the answer to a request: a refusal, which leaves this; or it was performed, as a volume of this shape takes it. A write got as many bytes
+-- as it says
+pub data IsAnswered {D : Type 0} (state : D → DeviceState) (honest : D → Type 0) (shape : Shape) (capacity : ℕ) (read_only : Bool) (r : Request) (upto : ℕ)
+    (left : Type 0) (a : Answer) : Type 0 where
+  Refused : (e : ℕ) → e ≢ 0 → left → a ≡ Now (simple_reply e r.cookie) → IsAnswered state honest shape capacity read_only r upto left a
+  Taken : (bytes : List ℕ) → IsTakenBy shape read_only r → (r.command ≡ 1 → length bytes ≡ r.length) →
+      IsPerformed state honest shape.block_size capacity r bytes upto a → IsAnswered state honest shape capacity read_only r upto left a

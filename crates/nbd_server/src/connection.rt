@@ -1,0 +1,118 @@
+//! The task that reads requests, and answers those that want no commit.
+use crate::answering::{answer, volume_bytes};
+use crate::done::Done;
+use crate::export::{Export, Volume};
+use crate::handshake::begin;
+use crate::replies::{Due, Output};
+use block_device::Device;
+use byte_volume::Stopped;
+use crossbeam_channel::Sender;
+use nbd_protocol::numbers::DISCONNECT;
+use nbd_protocol::{REQUEST_BYTES, Request};
+use shared_journal::{JournalName, Record};
+use std::alloc::Global;
+use std::io;
+use std::io::{ErrorKind, Read, Write};
+use std::sync::Wait;
+use volume_service::Session;
+
+#[derive(Drop)]
+pub(crate) struct Connection<'m, I: Read + Drop, O: Write + Drop> {
+    pub(crate) alloc: Global,
+    pub(crate) export: Export<'m>,
+    pub(crate) input: I,
+    pub(crate) out: &'m Output<O>,
+    /// The flusher's end of owed answers.
+    pub(crate) owed: Sender<Due>,
+}
+
+impl<I: Read + Drop, O: Write + Drop> Connection<'_, I, O> {
+    /// Serves the client until it ends.
+    pub(crate) fn run<J: JournalName, D: Device, R: Record, W: Wait>(
+        self,
+        rt: &W,
+        session: &mut Session<'_, J, D, R>,
+    ) -> Done {
+        let mut connection = self;
+        let mut stopped = Stopped::new();
+        let mut requests = 0;
+        let end = connection.talk(rt, session, &mut stopped, &mut requests);
+        Done {
+            requests,
+            upto: stopped.upto(),
+            committed: Vec::new(connection.alloc),
+            end,
+        }
+    }
+
+    /// Shakes hands, then answers requests until the client ends.
+    fn talk<J: JournalName, D: Device, R: Record, W: Wait>(
+        &mut self,
+        rt: &W,
+        session: &mut Session<'_, J, D, R>,
+        stopped: &mut Stopped,
+        requests: &mut u64,
+    ) -> io::Result<()> {
+        if !self.shake_hands(rt, session)? {
+            return Ok(());
+        }
+        for _ in rt.forever() {
+            let Some(request) = next_request(&mut self.input)? else {
+                return Ok(());
+            };
+            *requests = requests.saturating_add(1);
+            let (alloc, read_only) = (self.alloc, self.export.read_only);
+            let input = &mut self.input;
+            let given = answer(rt, alloc, session, read_only, stopped, input, &request)?;
+            if let Some(due) = self.out.give(rt, given)? {
+                self.hand_on(rt, due)?;
+            }
+        }
+        unreachable!()
+    }
+
+    /// Makes the handshake; true if requests follow.
+    fn shake_hands<J: JournalName, D: Device, R: Record, W: Wait>(
+        &mut self,
+        rt: &W,
+        session: &Session<'_, J, D, R>,
+    ) -> io::Result<bool> {
+        let (block_size, capacity) = (session.block_size(), session.capacity());
+        let description = format!(in self.alloc;
+            "journal: a write of up to {capacity} blocks of {block_size} bytes is atomic"
+        )?;
+        let volume = Volume {
+            export: self.export,
+            description: description.as_str(),
+            size: volume_bytes(session),
+            block_size,
+        };
+        let (alloc, out) = (self.alloc, self.out);
+        out.shake_hands(rt, alloc, &mut self.input, &volume)
+    }
+
+    /// Hands an owed answer to the flusher.
+    fn hand_on<W: Wait>(&self, rt: &W, due: Due) -> io::Result<()> {
+        match self.owed.send(rt, due) {
+            Ok(()) => Ok(()),
+            Err(_) => Err(io::Error::from(ErrorKind::BrokenPipe)),
+        }
+    }
+}
+
+/// The next request; `None` if the client ended before it.
+///
+/// # Errors
+///
+/// `UnexpectedEof`: the client ended within it. `InvalidData`: these bytes are no request.
+fn next_request<I: Read>(input: &mut I) -> io::Result<Option<Request>> {
+    let mut bytes = [0; REQUEST_BYTES];
+    if !begin(input, &mut bytes)? {
+        return Ok(None);
+    }
+    match Request::read(&bytes) {
+        Some(request) if request.command == DISCONNECT => Ok(None),
+        Some(request) => Ok(Some(request)),
+        None => Err(io::Error::from(ErrorKind::InvalidData)),
+    }
+}

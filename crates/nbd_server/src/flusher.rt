@@ -1,0 +1,92 @@
+//! The task that waits for commits, and gives the answers owed after them.
+ghost use Rattle.std.specs.Prelude.{◌≡◌, ◌++◌, [], ◌∷◌, OnOk};
+ghost use Rattle.nbd_server.specs.Answers.{Settles};
+
+use crate::done::{Committed, Done};
+use crate::replies::{Answer, Due, Output, Reply, error_of};
+use block_device::Device;
+use byte_volume::Committed as Receipt;
+use crossbeam_channel::Receiver;
+use journal_model::Tid;
+use shared_journal::{JournalName, Record};
+use std::alloc::Global;
+use std::io;
+use std::io::{ErrorKind, Write};
+use std::sync::Wait;
+use volume_service::Session;
+
+#[derive(Drop)]
+pub(crate) struct Flusher<'m, O: Write + Drop> {
+    pub(crate) alloc: Global,
+    pub(crate) out: &'m Output<O>,
+    /// The owed answers.
+    pub(crate) owed: Receiver<Due>,
+    /// How many answers are recorded.
+    pub(crate) keep: usize,
+}
+
+impl<O: Write + Drop> Flusher<'_, O> {
+    /// Gives the owed answers, in order, until no more can come.
+    pub(crate) fn run<J: JournalName, D: Device, R: Record, W: Wait>(
+        self,
+        rt: &W,
+        session: &mut Session<'_, J, D, R>,
+    ) -> Done {
+        let mut committed = Vec::new(self.alloc);
+        let end = self.settle_all(rt, session, &mut committed);
+        Done {
+            requests: 0,
+            upto: Tid(0),
+            committed,
+            end,
+        }
+    }
+
+    /// As `run`, and records answers.
+    fn settle_all<J: JournalName, D: Device, R: Record, W: Wait>(
+        &self,
+        rt: &W,
+        session: &mut Session<'_, J, D, R>,
+        committed: &mut Vec<Committed>,
+    ) -> io::Result<()> {
+        for _ in rt.forever() {
+            let Ok(due) = self.owed.recv(rt) else {
+                break;
+            };
+            let (reply, is_committed) = settle(rt, session, &due);
+            self.out.give(rt, Answer::Now(reply))?;
+            if is_committed && committed.len() < self.keep {
+                note(committed, &due)?;
+            }
+        }
+        Ok(())
+    }
+}
+
+/// Records an answer.
+fn note(committed: &mut Vec<Committed>, due: &Due) -> io::Result<()>
+    ensures { OnOk result (committed.new.items ≡ committed.old.items ++ record { cookie = due.now.cookie; upto = due.now.upto } ∷ []) }
+{
+    let answer = Committed {
+        cookie: due.cookie(),
+        upto: due.upto(),
+    };
+    match committed.push(answer) {
+        Ok(()) => Ok(()),
+        Err(_) => Err(io::Error::from(ErrorKind::OutOfMemory)),
+    }
+}
+
+/// Waits for the commit of an owed answer. Returns the answer, and whether it is a success, which needs a receipt.
+pub fn settle<J: JournalName, D: Device, R: Record, W: Wait>(
+    rt: &W,
+    session: &mut Session<'_, J, D, R>,
+    due: &Due,
+) -> (Reply, bool)
+    ensures { Settles due.now session.new.seat.seen result.0 result.1 }
+{
+    match Receipt::wait_for(rt, session, due.upto()) {
+        Ok(receipt) => (Reply::committed(due, &receipt), true),
+        Err(e) => (Reply::not_committed(due, error_of(e)), false),
+    }
+}

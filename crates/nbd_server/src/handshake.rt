@@ -1,0 +1,250 @@
+//! The handshake before the first request.
+use crate::export::Volume;
+use byteorder::{BigEndian, ByteOrder};
+use nbd_protocol::numbers::{
+    ABORT, ACK, EXPORT_NAME, FIXED_NEWSTYLE, GO, INFO, INFO_BLOCK_SIZE, INFO_DESCRIPTION,
+    INFO_EXPORT, INFO_NAME, INVALID, LIST, MOST_BYTES, NO_ZEROES, TOO_BIG, UNKNOWN, UNSUPPORTED,
+};
+use nbd_protocol::{
+    EXPORT_BYTES, FACT_REPLY_BYTES, GREETING_BYTES, NAME_REPLY_BYTES, OPTION_BYTES,
+    OPTION_REPLY_BYTES, OptionHeader, Question, SIZES_BYTES, export_flags, write_block_sizes,
+    write_export, write_fact_reply, write_greeting, write_name_reply, write_option_reply,
+};
+use std::alloc::Global;
+use std::io;
+use std::io::{ErrorKind, Read, Write};
+use std::sync::Wait;
+
+/// How many bytes are skipped at once.
+const STEP: usize = 4096;
+
+/// Bytes of an export with the 124 zeros after it, for a client that wants them.
+const ZEROED_BYTES: usize = EXPORT_BYTES + 124;
+
+/// What follows an option.
+#[derive(Clone, Copy, Debug, PartialEq, Eq)]
+enum Next {
+    Option,
+    Request,
+    End,
+}
+
+/// Fills a buffer; `false` if the input ended before it.
+///
+/// # Errors
+///
+/// `UnexpectedEof`: the input ends within it.
+pub(crate) fn begin<I: Read>(input: &mut I, into: &mut [u8]) -> io::Result<bool> {
+    if into.is_empty() {
+        return Ok(true);
+    }
+    let (first, rest) = into.split_at_mut(1);
+    match input.read_exact(first) {
+        Ok(()) => {}
+        Err(e) => {
+            return if e.kind() == ErrorKind::UnexpectedEof {
+                Ok(false)
+            } else {
+                Err(e)
+            };
+        }
+    }
+    input.read_exact(rest)?;
+    Ok(true)
+}
+
+/// Skips bytes.
+pub(crate) fn skip<I: Read>(input: &mut I, bytes: u32) -> io::Result<()> {
+    let mut room = [0; STEP];
+    for _ in 0..bytes as usize / STEP {
+        input.read_exact(&mut room)?;
+    }
+    let rest = bytes as usize % STEP;
+    input.read_exact(&mut room[..rest])
+}
+
+/// Greets a client and answers its options; true if requests follow.
+///
+/// # Errors
+///
+/// The client could not be read or written, or ended within its bytes. `InvalidData`: it has unknown flags, or these bytes are no option.
+/// Source: proto.md, "Client flags".
+pub(crate) fn shake_hands<I: Read, O: Write, W: Wait>(
+    rt: &W,
+    alloc: Global,
+    input: &mut I,
+    out: &mut O,
+    volume: &Volume<'_>,
+) -> io::Result<bool> {
+    let mut greeting = [0; GREETING_BYTES];
+    write_greeting(&mut greeting, FIXED_NEWSTYLE | NO_ZEROES);
+    out.write_all(&greeting)?;
+    out.flush()?;
+    let mut flags = [0; 4];
+    if !begin(input, &mut flags)? {
+        return Ok(false);
+    }
+    let flags = BigEndian::read_u32(&flags);
+    if flags > u32::from(FIXED_NEWSTYLE | NO_ZEROES) {
+        return Err(io::Error::from(ErrorKind::InvalidData));
+    }
+    let zeroed = flags / u32::from(NO_ZEROES) == 0;
+    for _ in rt.forever() {
+        let next = answer_option(alloc, input, out, volume, zeroed)?;
+        out.flush()?;
+        if next != Next::Option {
+            return Ok(next == Next::Request);
+        }
+    }
+    unreachable!()
+}
+
+/// Reads and answers an option. Data that are too long are skipped.
+fn answer_option<I: Read, O: Write>(
+    alloc: Global,
+    input: &mut I,
+    out: &mut O,
+    volume: &Volume<'_>,
+    zeroed: bool,
+) -> io::Result<Next> {
+    let mut bytes = [0; OPTION_BYTES];
+    if !begin(input, &mut bytes)? {
+        return Ok(Next::End);
+    }
+    let Some(header) = OptionHeader::read(&bytes) else {
+        return Err(io::Error::from(ErrorKind::InvalidData));
+    };
+    let Some(length) = header.data_bytes() else {
+        skip(input, header.length)?;
+        return too_long(out, header.option);
+    };
+    let mut told = vec![in alloc; 0u8; length]?;
+    input.read_exact(told.as_mut_slice())?;
+    match header.option {
+        EXPORT_NAME => enter(out, volume, zeroed, &told),
+        INFO | GO => tell(out, volume, header.option, &told),
+        LIST => list(out, volume, &told),
+        ABORT => {
+            say(out, ABORT, ACK)?;
+            Ok(Next::End)
+        }
+        _ => {
+            say(out, header.option, UNSUPPORTED)?;
+            Ok(Next::Option)
+        }
+    }
+}
+
+/// Answers an option with too long data; `EXPORT_NAME`, which has no reply, ends the connection.
+fn too_long<O: Write>(out: &mut O, option: u32) -> io::Result<Next> {
+    if option == EXPORT_NAME {
+        return Ok(Next::End);
+    }
+    say(out, option, TOO_BIG)?;
+    Ok(Next::Option)
+}
+
+/// Answers an option without data.
+fn say<O: Write>(out: &mut O, option: u32, kind: u32) -> io::Result<()> {
+    let mut bytes = [0; OPTION_REPLY_BYTES];
+    write_option_reply(&mut bytes, option, kind, 0);
+    out.write_all(&bytes)
+}
+
+/// Enters the export for `EXPORT_NAME`; an unknown name ends the connection.
+fn enter<O: Write>(
+    out: &mut O,
+    volume: &Volume<'_>,
+    zeroed: bool,
+    name: &[u8],
+) -> io::Result<Next> {
+    if !volume.is_named(name) {
+        return Ok(Next::End);
+    }
+    let mut bytes = [0; ZEROED_BYTES];
+    write_export(
+        &mut bytes,
+        volume.size,
+        export_flags(volume.export.read_only),
+    );
+    let wanted = if zeroed { ZEROED_BYTES } else { EXPORT_BYTES };
+    out.write_all(&bytes[..wanted])?;
+    Ok(Next::Request)
+}
+
+fn list<O: Write>(out: &mut O, volume: &Volume<'_>, told: &[u8]) -> io::Result<Next> {
+    if !told.is_empty() {
+        say(out, LIST, INVALID)?;
+        return Ok(Next::Option);
+    }
+    let name = volume.export.name.as_bytes();
+    let length = name.len().min(u16::MAX as usize) as u32;
+    let mut bytes = [0; NAME_REPLY_BYTES];
+    write_name_reply(&mut bytes, length);
+    out.write_all(&bytes)?;
+    out.write_all(&name[..length as usize])?;
+    say(out, LIST, ACK)?;
+    Ok(Next::Option)
+}
+
+/// Tells the wanted facts of the export, and enters it for `GO`.
+fn tell<O: Write>(out: &mut O, volume: &Volume<'_>, option: u32, told: &[u8]) -> io::Result<Next> {
+    let Some(question) = Question::read(told) else {
+        say(out, option, INVALID)?;
+        return Ok(Next::Option);
+    };
+    if !volume.is_named(question.name) {
+        say(out, option, UNKNOWN)?;
+        return Ok(Next::Option);
+    }
+    tell_export(out, volume, option)?;
+    for k in 0..question.wanted.len() / 2 {
+        match BigEndian::read_u16(&question.wanted[2 * k..2 * k + 2]) {
+            INFO_NAME => tell_text(out, option, INFO_NAME, volume.export.name)?,
+            INFO_DESCRIPTION => tell_text(out, option, INFO_DESCRIPTION, volume.description)?,
+            INFO_BLOCK_SIZE => tell_sizes(out, volume, option)?,
+            _ => {}
+        }
+    }
+    say(out, option, ACK)?;
+    Ok(if option == GO {
+        Next::Request
+    } else {
+        Next::Option
+    })
+}
+
+/// Begins to tell a fact of `bytes` bytes.
+fn begin_fact<O: Write>(out: &mut O, option: u32, fact: u16, bytes: u16) -> io::Result<()> {
+    let mut head = [0; FACT_REPLY_BYTES];
+    write_fact_reply(&mut head, option, fact, u32::from(bytes));
+    out.write_all(&head)
+}
+
+fn tell_export<O: Write>(out: &mut O, volume: &Volume<'_>, option: u32) -> io::Result<()> {
+    let mut bytes = [0; EXPORT_BYTES];
+    write_export(
+        &mut bytes,
+        volume.size,
+        export_flags(volume.export.read_only),
+    );
+    begin_fact(out, option, INFO_EXPORT, EXPORT_BYTES as u16)?;
+    out.write_all(&bytes)
+}
+
+/// Tells the block sizes: any range is accepted, whole blocks are best.
+fn tell_sizes<O: Write>(out: &mut O, volume: &Volume<'_>, option: u32) -> io::Result<()> {
+    let mut bytes = [0; SIZES_BYTES];
+    let best = volume.block_size.clamp(512, 65_536) as u32;
+    write_block_sizes(&mut bytes, 1, best, MOST_BYTES);
+    begin_fact(out, option, INFO_BLOCK_SIZE, SIZES_BYTES as u16)?;
+    out.write_all(&bytes)
+}
+
+/// Tells a fact that is a text.
+fn tell_text<O: Write>(out: &mut O, option: u32, fact: u16, text: &str) -> io::Result<()> {
+    let bytes = text.as_bytes();
+    let length = bytes.len().min(u16::MAX as usize);
+    begin_fact(out, option, fact, length as u16)?;
+    out.write_all(&bytes[..length])
+}

@@ -1,0 +1,22 @@
+//! A journal as a block device: NBD over one reader and one writer.
+//!
+//! `serving` runs a connection as two tasks: `connection` reads requests and answers those that want no commit, and `flusher` waits for
+//! commits and answers the others. `handshake` comes before the requests; `answering` performs one. `replies` has the answers and when each
+//! may be given, `export` what is served, and `done` how the connection went.
+#![tactic(auto)]
+
+mod answering;
+mod connection;
+mod done;
+mod export;
+mod flusher;
+mod handshake;
+mod replies;
+mod serving;
+
+pub use answering::{answer, change, perform, read_reply};
+pub use done::{Committed, Done};
+pub use export::Export;
+pub use flusher::settle;
+pub use replies::{Answer, Due, Output, ReadReply, Reply};
+pub use serving::{Served, serve};

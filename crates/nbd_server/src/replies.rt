@@ -1,0 +1,226 @@
+//! Answers to requests, when each may be given, and the one output.
+ghost use Rattle.std.specs.Prelude.{◌≡◌, ◌≢◌, ◌≤◌, IfOk, IfSome};
+ghost use Rattle.nbd_protocol.specs.Layout.{simple_reply};
+ghost use Rattle.nbd_protocol.specs.Requests.{WantsCommit};
+ghost use Rattle.nbd_server.specs.Answers.{IsOwedTo};
+ghost use Rattle.nbd_server.specs.declared.replies.Answer.TheVariants.{Later};
+
+use crate::export::Volume;
+use crate::handshake::shake_hands;
+use block_device::Device;
+use byte_volume::{Committed, Stopped};
+use journal_model::{JournalError, Tid};
+use nbd_protocol::numbers::{EINVAL, EIO, ENOMEM};
+use nbd_protocol::{REPLY_BYTES, Request, write_reply};
+use shared_journal::{JournalName, Record};
+use std::alloc::{AllocError, Global};
+use std::io;
+use std::io::{Read, Write};
+use std::marker::Model;
+use std::sync::{Mutex, Wait};
+use volume_service::Session;
+
+/// An owed answer to a flush, or to a change with `FUA` that was made: it may come once all transactions up to a number are committed.
+#[derive(Debug, Drop)]
+pub struct Due {
+    cookie: u64,
+    upto: Tid,
+}
+
+impl Model for Due {
+    ghost use Rattle.nbd_server.specs.Owing.{DueValue};
+
+    ghost Value = { DueValue };
+
+    ghost view = { λ d. record { cookie = d.cookie; upto = d.upto } };
+}
+
+impl Due {
+    /// The owed answer of a request. Its number covers every handle that has stopped, of this connection or another. It takes the journal's
+    /// lock.
+    /// Source: fs/jbd2/journal.c by behaviour (`jbd2_journal_start_commit`).
+    pub fn of<J: JournalName, D: Device, R: Record, W: Wait>(
+        rt: &W,
+        session: &Session<'_, J, D, R>,
+        request: &Request,
+        stopped: &Stopped,
+    ) -> Due
+        ensures { IsOwedTo D request.now stopped.now result }
+    {
+        let (last, noted) = (session.last_joined(rt), stopped.upto());
+        let upto = if last.0 < noted.0 { noted } else { last };
+        Due {
+            cookie: request.cookie,
+            upto,
+        }
+    }
+
+    /// The request's cookie.
+    pub fn cookie(&self) -> u64
+        ensures { result ≡ self.now.cookie }
+    {
+        self.cookie
+    }
+
+    /// The number up to which all transactions must be committed.
+    pub fn upto(&self) -> Tid
+        ensures { result ≡ self.now.upto }
+    {
+        self.upto
+    }
+}
+
+/// An answer without bytes after it.
+#[derive(Debug, Drop)]
+pub struct Reply {
+    bytes: [u8; REPLY_BYTES],
+}
+
+impl Model for Reply {
+    ghost use Rattle.std.specs.Prelude.{ℕ, List};
+
+    ghost Value = { List ℕ };
+
+    ghost view = { λ r. r.bytes };
+}
+
+impl Reply {
+    /// An answer with this error, or 0 for success.
+    fn new(error: u32, cookie: u64) -> Reply
+        ensures { result ≡ simple_reply error cookie }
+    {
+        let mut bytes = [0; REPLY_BYTES];
+        write_reply(&mut bytes, error, cookie);
+        Reply { bytes }
+    }
+
+    /// An answer that is given at once; it must be an error if the request wants a commit.
+    pub fn at_once(request: &Request, error: u32) -> Reply
+        requires { WantsCommit request.now → error ≢ 0 }
+        ensures { result ≡ simple_reply error request.now.cookie }
+    {
+        Reply::new(error, request.cookie)
+    }
+
+    /// Success of an owed answer, with a receipt for its transactions.
+    pub fn committed(due: &Due, receipt: &Committed) -> Reply
+        requires { due.now.upto ≤ receipt.now }
+        ensures { result ≡ simple_reply 0 due.now.cookie }
+    {
+        let _no_earlier = receipt.upto();
+        Reply::new(0, due.cookie)
+    }
+
+    /// An error for an owed answer.
+    pub fn not_committed(due: &Due, error: u32) -> Reply
+        requires { error ≢ 0 }
+        ensures { result ≡ simple_reply error due.now.cookie }
+    {
+        Reply::new(error, due.cookie)
+    }
+}
+
+/// A read's success, with its bytes.
+#[derive(Debug, Drop)]
+pub struct ReadReply {
+    bytes: Vec<u8>,
+}
+
+impl Model for ReadReply {
+    ghost use Rattle.std.specs.Prelude.{ℕ, List};
+
+    ghost Value = { List ℕ };
+
+    ghost view = { λ r. r.bytes.items };
+}
+
+impl ReadReply {
+    /// The answer's header, without the read bytes.
+    pub(crate) fn head(alloc: Global, request: &Request) -> Result<Vec<u8>, AllocError>
+        requires read { request.now.command ≡ 0 }
+        ensures { IfOk result (λ head. head.items ≡ simple_reply 0 request.now.cookie) }
+    {
+        let head = Reply::new(0, request.cookie);
+        let room = (request.length as usize).saturating_add(REPLY_BYTES);
+        let mut bytes = Vec::with_capacity(alloc, room)?;
+        bytes.extend_from_slice(&head.bytes)?;
+        Ok(bytes)
+    }
+
+    pub(crate) fn of(bytes: Vec<u8>) -> ReadReply
+        ensures { result ≡ bytes.items }
+    {
+        ReadReply { bytes }
+    }
+}
+
+#[derive(Debug, Drop)]
+pub enum Answer {
+    /// Given at once, without bytes after it.
+    Now(Reply),
+    /// Given at once, with the read bytes.
+    Bytes(ReadReply),
+    /// Owed.
+    Later(Due),
+}
+
+/// The one output. An answer is written whole: no other thread's bytes come between.
+#[derive(Drop)]
+pub struct Output<O: Write + Drop> {
+    out: Mutex<O>,
+}
+
+impl<O: Write + Drop> Output<O> {
+    pub fn new(out: O) -> Self {
+        Output {
+            out: Mutex::new(out),
+        }
+    }
+
+    pub fn into_inner(self) -> O {
+        let Output { out } = self;
+        out.into_inner()
+    }
+
+    /// Makes the handshake; true if requests follow.
+    pub(crate) fn shake_hands<I: Read, W: Wait>(
+        &self,
+        rt: &W,
+        alloc: Global,
+        input: &mut I,
+        volume: &Volume<'_>,
+    ) -> io::Result<bool> {
+        let mut out = self.out.lock(rt);
+        shake_hands(rt, alloc, input, &mut *out, volume)
+    }
+
+    /// Gives an answer, or returns it if it is owed.
+    pub fn give<W: Wait>(&self, rt: &W, answer: Answer) -> io::Result<Option<Due>>
+        ensures { IfOk result (λ owed. IfSome owed (λ due. answer ≡ Later due)) }
+    {
+        match answer {
+            Answer::Now(reply) => self.send(rt, &reply.bytes)?,
+            Answer::Bytes(reply) => self.send(rt, &reply.bytes)?,
+            Answer::Later(due) => return Ok(Some(due)),
+        }
+        Ok(None)
+    }
+
+    /// Writes bytes whole.
+    fn send<W: Wait>(&self, rt: &W, bytes: &[u8]) -> io::Result<()> {
+        let mut out = self.out.lock(rt);
+        out.write_all(bytes)?;
+        out.flush()
+    }
+}
+
+/// The error number for a refusal.
+pub(crate) fn error_of(refusal: JournalError) -> u32
+    ensures { result ≢ 0 }
+{
+    match refusal {
+        JournalError::Memory => ENOMEM,
+        JournalError::BadBlock | JournalError::TooMany => EINVAL,
+        _ => EIO,
+    }
+}

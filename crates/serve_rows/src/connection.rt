@@ -1,0 +1,140 @@
+//! Serves a row over a new log in memory. Lines tell the result: `out` the answered bytes; `end` how the connection ended and how many
+//! requests it had; `committed` the cookies of answers that confirmed a commit; `home` the content of home.
+use crate::given::Given;
+use crate::spelling::spell;
+use block_device::{Device, MemDevice};
+use format_rows::RowError;
+use journal_model::{Area, JournalError};
+use nbd_server::{Done, Export, Output, serve};
+use shared_journal::{LaidJournal, lay};
+use std::alloc::Global;
+use std::fmt::Write;
+use std::io::ErrorKind;
+use std::sync::Wait;
+use std::thread::Threads;
+
+/// In bytes.
+const BLOCK_SIZE: usize = 1024;
+
+/// Blocks of the log: a handle has at most six credits.
+const LOG_BLOCKS: u32 = 33;
+
+pub const HOME_BLOCKS: u64 = 16;
+
+/// How many answers that confirm a commit are kept.
+const KEEP: usize = 64;
+
+/// A device in memory with a new log.
+pub fn new_log(alloc: Global) -> Result<MemDevice, RowError> {
+    let mut device = MemDevice::new(alloc, BLOCK_SIZE, u64::from(LOG_BLOCKS), HOME_BLOCKS);
+    match recovery::format(&mut device, LOG_BLOCKS, &[0xaa; 16], false) {
+        Ok(()) => Ok(device),
+        Err(_) => Err(RowError::Unread),
+    }
+}
+
+/// An unnamed journal on a device's log.
+fn laid_on<D: Device + Drop>(alloc: Global, device: D) -> Result<LaidJournal<D>, JournalError> {
+    match recovery::open(alloc, device) {
+        Ok(opened) => match lay(alloc, opened) {
+            Ok(laid) => Ok(laid),
+            Err((_, e)) => Err(e),
+        },
+        Err((_, e)) => Err(e),
+    }
+}
+
+/// A connection's end, its answers, and its device.
+#[derive(Drop)]
+pub struct Left<D: Drop> {
+    pub done: Done,
+    pub out: Vec<u8>,
+    pub closed: bool,
+    pub device: D,
+}
+
+/// Serves a row over a device's log.
+pub fn serve_on<D: Device + Send + Drop, T: Threads + Wait + Sync>(
+    threads: &T,
+    alloc: Global,
+    given: &Given<'_>,
+    device: D,
+) -> Result<Left<D>, RowError> {
+    let Ok(laid) = laid_on(alloc, device) else {
+        return Err(RowError::Unread);
+    };
+    let out = Output::new(Vec::new(alloc));
+    let export = Export {
+        name: given.name,
+        read_only: given.read_only,
+    };
+    let stream = given.stream.as_slice();
+    let Ok(served) = serve(threads, alloc, laid, export, KEEP, stream, &out) else {
+        return Err(RowError::Memory);
+    };
+    Ok(Left {
+        done: served.done,
+        out: out.into_inner(),
+        closed: served.closed.is_ok(),
+        device: served.parts.device,
+    })
+}
+
+/// All bytes of home.
+pub fn home_of<D: Device>(alloc: Global, device: &mut D) -> Result<Vec<u8>, RowError> {
+    let mut home = Vec::new(alloc);
+    for block in 0..device.blocks(Area::Home) {
+        let bytes = home_block(alloc, device, block)?;
+        home.extend_from_slice(&bytes)?;
+    }
+    Ok(home)
+}
+
+/// One block of home.
+fn home_block<D: Device>(alloc: Global, device: &mut D, block: u64) -> Result<Vec<u8>, RowError> {
+    if block >= device.blocks(Area::Home) {
+        return Err(RowError::Unread);
+    }
+    let mut bytes = vec![in alloc; 0u8; device.block_size()]?;
+    device.read(Area::Home, block, bytes.as_mut_slice())?;
+    Ok(bytes)
+}
+
+/// The result of a row.
+pub fn found<T: Threads + Wait + Sync>(
+    threads: &T,
+    alloc: Global,
+    given: &Given<'_>,
+) -> Result<String, RowError> {
+    let left = serve_on(threads, alloc, given, new_log(alloc)?)?;
+    let mut device = left.device;
+    let home = home_of(alloc, &mut device)?;
+    let mut text = String::new(alloc);
+    write!(text, "out")?;
+    spell(&mut text, &left.out)?;
+    write!(
+        text,
+        "\nend {} requests={} closed={}\ncommitted",
+        ending(&left.done),
+        left.done.requests,
+        left.closed
+    )?;
+    for answer in &left.done.committed {
+        write!(text, " {}", answer.cookie)?;
+    }
+    write!(text, "\nhome")?;
+    spell(&mut text, &home)?;
+    Ok(text)
+}
+
+/// How a connection ended.
+fn ending(done: &Done) -> &'static str {
+    match &done.end {
+        Ok(()) => "well",
+        Err(e) => match e.kind() {
+            ErrorKind::UnexpectedEof => "within",
+            ErrorKind::InvalidData => "malformed",
+            _ => "otherwise",
+        },
+    }
+}
