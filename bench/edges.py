@@ -27,6 +27,7 @@ COMMANDS = {  # the words of each, and which of them are files
     "recover": ["LOG", "HOME"],
     "apply": ["LOG", "HOME", "SCRIPT"],
     "bench": ["LOG", "HOME", "--transactions", "1"],
+    "serve": ["LOG", "HOME"],
 }
 
 

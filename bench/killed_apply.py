@@ -6,9 +6,9 @@ usage: killed_apply.py [--program PATH] [COUNT] [SEED]                        so
 
 The model is run_model.py, which shares nothing with the journal, with the close of docs/FORMAT.md beside it; the scripts are those of
 runs.py. Each script is applied to new files once to its end and then several times, each time killed (SIGKILL) once a drawn number of its
-lines has come, or a moment later; half of all applies are made with --stay. Each time:
+lines has come, or a moment later; half of all applies are made with --stay, and half with --make-room. Each time:
 
-- what was printed is the front of what the model prints of the whole apply;
+- what was printed is the front of what the model prints of the whole apply, and standard error says of an open wait what the model says;
 - both files hold, byte for byte, what the model's device holds behind one of its writes (a kill takes no write back of those
   that were handed to a file, and they are handed over in their order, so all of them are there up to some one); where it was not
   killed, behind the last one;
@@ -58,7 +58,7 @@ class Recorded(Device):
 class Apply(Run):
     """An apply of a script to a log that was just formatted, with all its lines, and how much was shown committed behind each."""
 
-    def __init__(self, text, stay):
+    def __init__(self, text, stay, make_room):
         super().__init__(text)  # reads the script, and does it once on a device that is thrown away
         counts = {"log": self.script["length"], "home": self.script["home"]}
         self.first = {"log": {0: formatted(self.script)}, "home": {}}
@@ -66,9 +66,17 @@ class Apply(Run):
         self.device = Recorded(self.script["block"], counts, copy)
         self.journal = Journal(self.device)
         self.names, self.lines, self.shown, self.showns = {}, ["clean next=2"], 0, [0]
+        self.open_wait = 0
         for operation in self.script["ops"]:
-            self.lines.append(self.line(operation))
+            line = self.line(operation)
+            if make_room and line.endswith(" = refused 11 NeedSpace"):
+                self.do_check()
+                line = self.line(operation)
+            if operation[0] == "wait" and line.endswith(" = open"):
+                self.open_wait = max(self.open_wait, self.names[operation[1]].tid)
+            self.lines.append(line)
             self.showns.append(self.shown)
+        self.is_open = self.open_wait > self.shown
         for handle in self.journal.handles:
             handle.is_open = False
         if not stay:
@@ -93,6 +101,11 @@ class Apply(Run):
             self.device.flush("log")
         self.lines.append(f"closed next={number_behind('next=', opening(self.blocks(len(self.device.made))['log'], 1)[0])}")
         self.showns.append(self.shown)
+
+    def said(self):
+        """What standard error has of the whole apply."""
+        why = 'no line after it showed that committed: ["commit"] has to come before it'
+        return f"jbench: a wait for transaction {self.open_wait} came to open, and {why}\n" if self.is_open else ""
 
     def blocks(self, writes):
         """All blocks of both areas behind so many writes."""
@@ -195,14 +208,15 @@ class Killer:
     def held(self):
         return {area: Path(self.path(area)).read_bytes() for area in ("log", "home")}
 
-    def compare(self, text, stay, is_killed):
-        apply = Apply(text, stay)
+    def compare(self, text, stay, make_room, is_killed):
+        apply = Apply(text, stay, make_room)
         self.format(apply)
         Path(self.path("script")).write_text(text)
         words = ["apply", self.path("log"), self.path("home"), self.path("script"), "--keep-going", *["--stay"] * stay]
+        words += ["--make-room"] * make_room
         given = f"script: {text}\nwords: {words}"
         lines, err, status = self.apply(words, self.draw.randrange(len(apply.lines) + 1) if is_killed else None)
-        self.expect("", err, given)
+        self.expect(apply.said()[: len(err)] if is_killed and status != 0 else apply.said(), err, given)
         if is_killed and status != 0:
             self.expect(-signal.SIGKILL, status, given)
             self.cases["killed before its last line"] += len(lines) < len(apply.lines)
@@ -215,6 +229,8 @@ class Killer:
         self.compare_files(apply, apply.showns[len(lines) - 1] if lines else 0, status == 0, given)
         self.cases["applies"] += 1
         self.cases["with --stay"] += stay
+        self.cases["with --make-room"] += make_room
+        self.cases["with an open wait at the end"] += apply.is_open
 
     def compare_files(self, apply, shown, has_ended, given):
         """Compares what an apply left with the model, and then what `recover` makes of it."""
@@ -261,7 +277,7 @@ def main(words):
             for _ in range(count):
                 text = killer.script()
                 for is_killed in [False] + [True] * KILLS:
-                    killer.compare(text, draw.random() < 0.5, is_killed)
+                    killer.compare(text, draw.random() < 0.5, draw.random() < 0.5, is_killed)
         except Difference as difference:
             print(difference)
             return 1

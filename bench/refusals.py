@@ -13,7 +13,7 @@ ADVICE = {
     "BadBlock": "the home area has no such block: jbench check SCRIPT and the length of HOME say which there are",
     "NotDirect": "the log may still bring home an older copy of that block: write it by a handle, or revoke it and commit first",
     "SequenceEnd": "no transaction number is left: where jbench show LOG has s_start 0 the log is clean, and jbench format LOG HOME --keep-home makes a new one beside the same home",
-    "NeedSpace": 'the log has no room left for the transaction: ["check"] before its commit brings home what is committed, and makes room',
+    "NeedSpace": 'the log has no room left for the transaction: ["check"] before its commit brings home what is committed, and makes room; apply --make-room does both',
     "Revoked": "the block was revoked, and holds nothing to be read: write it first, or read it once the revoke is committed and checked",
     "BadMagic": "no log stands there: jbench show LOG says what does, and what to do then",
     "BadType": FIELD,

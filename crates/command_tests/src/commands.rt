@@ -1,5 +1,4 @@
-//! What the commands of the program say of real files, and of readers and writers that fail. All else that they say is in rows
-//! of the program `journal_rows`.
+//! The output of commands over real files, and with readers and writers that fail. `journal_rows` has all other output as rows.
 use file_device::UnknownContents;
 use jbench_commands::obeying::obey;
 use jbench_words::fault::Status;
@@ -14,17 +13,17 @@ mod faults;
 mod locks;
 mod log_files;
 mod paths;
+mod rounds;
 mod sessions;
 mod wide_logs;
 
-/// What a command said, as one text: what it printed, a bar and what it said of a refusal, and then how it ended.
+/// A command's output as one text: what it printed, a bar and its message, then its status.
 fn text_of(alloc: Global, out: &[u8], err: &[u8], status: Status) -> Result<String, Fail> {
     let out = from_utf8(out)?;
     let err = from_utf8(err)?;
     Ok(format!(in alloc; "{out}| {err}{}", name_of(status))?)
 }
 
-/// The name of a status.
 fn name_of(status: Status) -> &'static str {
     match status {
         Status::Fine => "Fine",
@@ -33,10 +32,9 @@ fn name_of(status: Status) -> &'static str {
     }
 }
 
-/// The words of a command, and what it says.
+/// A command's words, and its output.
 type Step = (&'static str, &'static str);
 
-/// The words of a line.
 fn words_of(alloc: Global, line: &'static str) -> Result<Vec<&'static str>, AllocError> {
     let mut words = Vec::new(alloc);
     for word in line.split(' ') {
@@ -45,7 +43,7 @@ fn words_of(alloc: Global, line: &'static str) -> Result<Vec<&'static str>, Allo
     Ok(words)
 }
 
-/// What a command says.
+/// A command's output.
 fn said(rt: &HostRuntime, line: &'static str) -> Result<String, Fail> {
     let words = words_of(rt.alloc(), line)?;
     let mut out = Vec::new(rt.alloc());
@@ -59,7 +57,7 @@ fn said(rt: &HostRuntime, line: &'static str) -> Result<String, Fail> {
     }
 }
 
-/// The first of the steps whose command says something else, and what that is.
+/// The first step with another output, and that output.
 fn first_other(rt: &HostRuntime, steps: &[Step]) -> Result<Option<String>, Fail> {
     for (line, wanted) in steps {
         let found = said(rt, line)?;
@@ -70,7 +68,7 @@ fn first_other(rt: &HostRuntime, steps: &[Step]) -> Result<Option<String>, Fail>
     Ok(None)
 }
 
-/// The byte at this place, ff where there is none.
+/// The byte at this place, ff if there is none.
 fn byte_at(bytes: &[u8], place: usize) -> u8 {
     bytes.get(place).copied().unwrap_or(0xff)
 }

@@ -1,5 +1,5 @@
-//! Tests of the program's commands over real files, and with readers and writers that fail. There is nothing here but tests, and all
-//! call public functions alone: so no other library is proved a second time for them.
+//! Tests of the program's commands over real files, and with readers and writers that fail. They call only public functions, so no other
+//! library is proved again for them.
 #![tactic(auto)]
 
 #[cfg(test)]

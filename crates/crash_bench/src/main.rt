@@ -1,6 +1,4 @@
-//! `jbench`: runs a script of journal operations over a device in memory that stops at one of its writes, or at each in turn, opens
-//! what the stop left, and judges it; makes logs in files, prints and recovers them. The commands are those of `jbench_threads`:
-//! here they are given the program's words, and standard output and error.
+//! The program `jbench`: gives its words, standard output and standard error to the commands of `jbench_threads`.
 #![tactic(auto)]
 
 use file_device::UnknownContents;
@@ -14,7 +12,7 @@ use std::sync::Wait;
 use std::thread::Threads;
 use std::{fs, io};
 
-/// A file that holds nothing.
+/// An empty file.
 const NOTHING: &str = "/dev/null";
 
 fn main(rt: HostRuntime) -> ExitCode {
@@ -24,8 +22,8 @@ fn main(rt: HostRuntime) -> ExitCode {
     }
 }
 
-/// Opens a file in the place of each standard stream that is closed, so that no file of a log gets its number: what is printed would
-/// be written over that log.
+/// Opens three files, which take the numbers of closed standard streams. Otherwise a log's file could take one, and output would overwrite
+/// the log.
 fn hold_streams(rt: &HostRuntime) -> io::Result<(File, File, File)> {
     Ok((
         fs::open(rt, NOTHING)?,
@@ -34,13 +32,13 @@ fn hold_streams(rt: &HostRuntime) -> io::Result<(File, File, File)> {
     ))
 }
 
-/// Obeys the words that the program was called with, while the standard streams are held.
+/// Runs the program's command, while the standard streams are held.
 fn jbench<T: Threads + Wait + Sync>(rt: &HostRuntime, threads: &T) -> io::Result<Status> {
     let _held = hold_streams(rt)?;
     obey_words(rt, threads)
 }
 
-/// Reads the words that the program was called with, and obeys them.
+/// Reads the program's words and runs their command.
 fn obey_words<T: Threads + Wait + Sync>(rt: &HostRuntime, threads: &T) -> io::Result<Status> {
     let arguments = arguments::read(rt, rt.alloc())?;
     match words::parse(rt.alloc(), arguments.words()) {

@@ -12,13 +12,13 @@ use Rattle.jbench_commands.specs.Sweeps.{HasSwept, IsSweptTo}
 use Rattle.jbench_commands.specs.declared.check.Good.{Good}
 use Rattle.jbench_commands.specs.declared.check.Good.TheVariants.{Operations, Clients}
 
--- a run that ends with 0 has a verdict that is ok
+-- a run that ends with 0 has an ok verdict
 pub ends-fine : {E : Type 0} (P : Bool → Type 0) (end : Result Status E) (verdict : Result Bool Fault) →
     IfOk end (λ status. status ≡ Fine → verdict ≡ Ok true) → IfOk verdict P → IfOk end (λ status. status ≡ Fine → P true)
 ends-fine P (Err e) verdict fine is = tt
 ends-fine P (Ok status) verdict fine is = λ now. subst (λ (r : Result Bool Fault). IfOk r P) (fine now) is
 
--- one whose verdict can't be false ends with 1 otherwise
+-- a run whose verdict cannot be false ends with 0 or 1
 pub ends-refused : {E : Type 0} (end : Result Status E) (verdict : Result Bool Fault) →
     IfOk end (λ status. status ≢ Fine → (status ≡ Refused) ⊎ (verdict ≡ Ok false)) → IfOk verdict (λ right. right ≡ true)
     → IfOk end (λ status. status ≢ Fine → status ≡ Refused)
@@ -28,7 +28,7 @@ ends-refused (Ok status) verdict other is = λ not.
     (λ (wrong : verdict ≡ Ok false). absurd (false≢true (subst (λ (r : Result Bool Fault). IfOk r (λ right. right ≡ true)) wrong is)))
     (other not)
 
--- no command but a sweep and clients in threads ends with 2
+-- only a sweep and clients in threads may end with 2
 abbrev IsWrong : Status → Type 0
 IsWrong Fine = ⊥
 IsWrong Refused = ⊥
@@ -40,7 +40,7 @@ never-wrong (Ok status) other = λ wrong.
     let refused : status ≡ Refused = other (λ (fine : status ≡ Fine). subst IsWrong (sym wrong ∙ fine) tt) in
     subst IsWrong (sym wrong ∙ refused) tt
 
--- one that was refused ends with 1
+-- a refused command ends with 1
 abbrev IsFine : Status → Type 0
 IsFine Fine = ⊤
 IsFine Refused = ⊥
@@ -62,7 +62,7 @@ is-taken known text (Ok (Clients script)) whole is ok =
     inr (record { script = script; of_text = record { text = text; whole = whole; is = is.0 }; servable = is.1 })
 is-taken known text (Err e) whole is ok = absurd (false≢true ok)
 
--- what is left where something is
+-- what a successful command leaves
 pub some-left : {A : Type 0} (P : A → Type 0) (done : Option A) → IsSome done → IfSome done P → (left : A) × P left
 some-left P (Some left) is p = (left, p)
 some-left P None is p = absurd (false≢true is)
@@ -75,6 +75,6 @@ ok-both P Q (Err e) is p q = absurd (false≢true is)
 pub ends-swept : (known : Option (List ℕ)) (fails : Bool) (count : ℕ) (status : Status) → HasSwept known fails count → count ≡ 0 → (count ≡ 0 → status ≡ Fine) → IsSweptTo known fails status
 ends-swept known fails count status swept none fine = record { fine = λ now. subst (HasSwept known fails) none swept; other = λ not. absurd (not (fine none)) }
 
--- and it counts nothing where no opening was not right
+-- a sweep counts nothing if each opening was right
 pub none-counted : (n : NotRight) (count : ℕ) → count ≡ not_right_of n → n ≡ none_wrong → count ≡ 0
 none-counted n count is none = is ∙ ap not_right_of none

@@ -17,11 +17,11 @@ use Rattle.jbench_commands.specs.Runs.{HasRun, IsRunWithImage, runs_told}
 pub over-two : {L : Type 0} (files : LockedPair L) (device : FileState) → IsOver files.log.file.file files.home.file.file device → IsOverTwo device
 over-two files device over = record { log = files.log.file; home = files.home.file; apart = files.are_two; over = over }
 
--- a home area that is kept is none that is not
+-- a kept home area is no other one
 pub not-both : {P : Type 0} → true ≡ false → P
 not-both wrong = absurd (false≢true (sym wrong))
 
--- and of new files where they had to be that
+-- over new files, if they had to be new
 pub over-told : {L : Type 0} (has_to_be_new keep_home : Bool) (files : LockedPair L) (device : FileState) → IsOver files.log.file.file files.home.file.file device
     → (has_to_be_new ≡ true → files.log.file.is_made ≡ true) → (has_to_be_new ≡ true → keep_home ≡ false → files.home.file.is_made ≡ true)
     → over_told has_to_be_new keep_home device
@@ -36,7 +36,7 @@ recovers true before_damage old new plain before dry = dry refl
 recovers false true old new plain before dry = before refl refl
 recovers false false old new plain before dry = plain refl refl
 
--- a run without an image, or with one, as the words tell
+-- a run with or without an image, as the words ask
 pub run-alone : {known : Option (List ℕ)} {words : RunWords} (image : Option LogPaths) → ((paths : LogPaths) → image ≡ Some paths → ⊥) →
     HasRun IsRunOf known words true → HasRun (runs_told image) known words true
 run-alone None none ran =

@@ -1,4 +1,4 @@
--- What is left of a journal is left of its device too where that has only been read since.
+-- What a journal leaves stays on a device that is only read afterwards.
 use Rattle.std.proofs.Common.{◌≡◌, ◌∙◌, ◌⊎◌, inl, inr, ℕ, List, Option, true, subst, sym}
 use Rattle.std.proofs.lemmas.Bool.{false≢true}
 use Rattle.std.proofs.lemmas.Result.{on_ok_weaker}
@@ -17,7 +17,7 @@ use Rattle.script_client.specs.Told.{IsLedTo}
 use Rattle.jbench_commands.specs.Applying.{EndsWithNext, SaysBehind, SaysNext}
 use Rattle.jbench_commands.specs.Applying.SaysBehind.{SaysNothing, SaysNumber}
 
--- a journal is closed or stays
+-- whether a journal is closed
 abbrev IsToClose : Ending → Type 0
 IsToClose Close = ⊤
 IsToClose Stay = ⊥
@@ -46,12 +46,12 @@ ended-stays stays e = record {
 pub closed-stays : {old new : DeviceState} {sealed : History} → Stays old new → IsLeftClosed old sealed → IsLeftClosed new sealed
 closed-stays stays closed = record { each = λ image leaves. rw stays.shape (closed.each image (subst (λ (disk : Disk). Leaves disk image) stays.disk leaves)) }
 
--- what is known of an answer that is Ok
+-- a fact of an Ok answer
 pub was-ok : {T E P : Type 0} (r : Result T E) → is_ok r ≡ true → OnOk r P → P
 was-ok (Ok v) ok p = p
 was-ok (Err e) ok p = absurd (false≢true ok)
 
--- the number behind that of the superblock is that behind the limit, of a log that was closed
+-- in a closed log, the number after the superblock's is the number after the limit
 pub says-next : {old new : DeviceState} {sealed : History} {before written : Option (List ℕ)} →
     Stays old new → IsLeftClosed old sealed → SaysNext old before written → EndsWithNext new written
 says-next {old} {new} {sealed} {before} {written} stays closed says = record {
@@ -61,7 +61,7 @@ says-next {old} {new} {sealed} {before} {written} stays closed says = record {
   said = says.said;
 }
 
--- what was closed is closed still behind what is said of it
+-- a closed log is still closed after its line
 pub behind-closed : {D : Type 0} {state : D → DeviceState} {honest : D → Type 0} {ending : Ending} {device left : D} {applied end : Result (Unit {0}) Fault} {said written : Option (List ℕ)}
     (sealed : History) → SaysBehind state honest ending device left applied end said written → ending ≡ Close → Stays (state device) (state left) → (honest left → honest device) →
     OnOk applied (honest device → IsLeftClosed (state device) sealed) → OnOk end (honest left → IsLeftClosed (state left) sealed)
@@ -71,7 +71,7 @@ behind-closed {D} {state} {honest} {ending} {device} {left} {applied} {end} {sai
 behind-closed {D} {state} {honest} {ending} {device} {left} {applied} {end} {said} {written} sealed (SaysNumber is ok says) close stays before closed =
     on_ok_weaker end (λ _. λ now. closed-stays stays (was-ok applied ok closed (before now))) says
 
--- the number that is said is that of the next transaction
+-- the printed number is the next transaction's
 pub behind-next : {D : Type 0} {state : D → DeviceState} {honest : D → Type 0} {ending : Ending} {device left : D} {applied end : Result (Unit {0}) Fault} {said written : Option (List ℕ)}
     (sealed : History) → SaysBehind state honest ending device left applied end said written → ending ≡ Close → Stays (state device) (state left) → (honest left → honest device) →
     OnOk applied (honest device → IsLeftClosed (state device) sealed) → OnOk end (honest left → EndsWithNext (state left) written)
@@ -85,7 +85,7 @@ behind-next {D} {state} {honest} {ending} {device} {left} {applied} {end} {said}
 behind-next {D} {state} {honest} {ending} {device} {left} {applied} {end} {said} {written} sealed (SaysNumber is ok says) close stays before closed =
     on_ok_weaker end (λ said_now. λ now. says-next stays (was-ok applied ok closed (before now)) (said_now now)) says
 
--- what stays is as it was left
+-- a journal that stays is as it was left
 pub behind-stays : {D : Type 0} {state : D → DeviceState} {honest : D → Type 0} {ending : Ending} {device left : D} {applied end : Result (Unit {0}) Fault} {said written : Option (List ℕ)}
     {F : Shape → Disk → Type 0} {operations : List Operation} {sealed : History} {shown : Option ℕ} →
     SaysBehind state honest ending device left applied end said written → ending ≡ Stay → IsLedTo F operations (state device) sealed shown → IsLedTo F operations (state left) sealed shown

@@ -1,4 +1,4 @@
--- What an apply that was refused leaves.
+-- What a refused apply leaves.
 use Rattle.std.proofs.Common.{◌∙◌, ap, refl, subst, sym}
 use Rattle.std.specs.Prelude.{◌≡◌, ℕ, List, Option, ◌++◌}
 use Rattle.journal_model.specs.Disk.{Disk, Shape}
@@ -17,11 +17,11 @@ use Rattle.jbench_commands.specs.declared.apply.Unapplied.TheVariants.{Unbegun, 
 use Rattle.jbench_commands.specs.Applying.{AreForDevice}
 use Rattle.jbench_commands.specs.Unapplied.{IsUnapplied, IsUnappliedBehind}
 
--- a device that was only read
+-- the device was only read
 pub only-read : (old new : DeviceState) → Stays old new → EachMoment (IsMoment old.shape old.disk) old new
 only-read old new stays = each-stays (IsMoment old.shape old.disk) old new stays (Unread refl)
 
--- an opening behind reads, and before others
+-- an opening between reads
 pub behind-reads : (s t u v : DeviceState) → Stays s t → EachMoment (IsMoment t.shape t.disk) t u → Stays u v → EachMoment (IsMoment s.shape s.disk) s v
 behind-reads s t u v first each last =
     let P : Disk → Type 0 = IsMoment s.shape s.disk in
@@ -35,7 +35,7 @@ behind-reads s t u v first each last =
     } in
     each-joins P s u v moved (each-stays P u v last moved.now)
 
--- what is left of an opened log is left of the device that it was opened on
+-- what an opened log leaves is left on the device that it was opened on
 pub unapplied-behind : {D : Type 0} (state : D → DeviceState) (honest : D → Type 0) (device : D) (known : Option (List ℕ)) (opened : OpenedValue D) (operations : List Operation) (after : AfterRefusal) (ending : Ending) (left : Unapplied D)
     → (honest opened.device → IsOpening (state device).shape (state device).disk (state opened.device).disk opened.superblock opened.next)
     → AreForDevice known (state device) (honest opened.device) operations

@@ -1,4 +1,4 @@
--- What an apply takes from its device, and what it says of the log that it closed.
+-- What an apply takes from its device, and what it prints about the closed log.
 use Rattle.std.specs.Prelude.{◌≡◌, ◌⊎◌, ℕ, ◌+◌, ◌==◌, nat_lt, if◌then◌else◌, Bool, true, false, List, [], ◌∷◌, ◌++◌, Option, Result, IsErr, IsOk, OnOk, codes}
 use Rattle.std.specs.Fmt.{decimal}
 use Rattle.std.specs.Io.KnownBytes.{Appends, Keeps}
@@ -16,12 +16,11 @@ use Rattle.jbench_commands.specs.Runs.{AreOfText}
 use Rattle.jbench_logs.specs.Said.{opened_line}
 use Rattle.script_client.specs.declared.fault.Fault.{Fault}
 use Rattle.script_client.specs.declared.performing.AfterRefusal.{AfterRefusal}
-use Rattle.script_client.specs.declared.performing.AfterRefusal.TheVariants.{End, GoOn}
 use Rattle.script_client.specs.declared.performing.Ending.{Ending}
 use Rattle.script_client.specs.declared.performing.Ending.TheVariants.{Close, Stay}
 use Rattle.script_client.specs.Outcomes.{HasApplied}
 
--- these are the measures of a device, and of the log that its superblock tells of
+-- the measures of a device and of the log in its superblock
 pub record AreOf (state : DeviceState) (m : Measures) : Type 0 where
   pub block_size : m.block_size ≡ state.shape.block_size
   pub log_blocks : m.log_blocks ≡ (super_of (reading state.disk)).s_maxlen
@@ -29,39 +28,36 @@ pub record AreOf (state : DeviceState) (m : Measures) : Type 0 where
   pub uuid : m.uuid ≡ (super_of (reading state.disk)).s_uuid
   pub wide : m.wide ≡ ((super_of (reading state.disk)).s_feature_incompat == wide_features)
 
--- the line of a close: the number behind this limit, which the next transaction has, or that none is left
+-- a close's line: the number after this limit, or that none is left
 abbrev pub closed_line : ℕ → List ℕ
 closed_line limit = codes "closed next=" ++ (if nat_lt limit greatest_number then decimal (limit + 1) else codes "none") ++ newline ∷ []
 
--- the last line that was written is that of the number which the superblock says
+-- the last line has the superblock's number
 pub record SaysNext (state : DeviceState) (old new : Option (List ℕ)) : Type 0 where
   pub said : Appends old new (closed_line (super_of (reading state.disk)).s_sequence)
 
--- The last line that was written tells the number that the next opening of this log gives the next transaction: the one behind its
--- limit, where one is left.
+-- The last line has the number that the next opening gives the next transaction: the one after the log's limit, if one is left.
 pub record EndsWithNext (state : DeviceState) (written : Option (List ℕ)) : Type 0 where
   pub limit : ℕ
   pub has_limit : HasLimit state.shape (reading state.disk) limit
   pub before : Option (List ℕ)
   pub said : Appends before written (closed_line limit)
 
--- how a journal is left, and what comes behind a refused operation, as the words tell
+-- how a journal is left, and what a refused operation does, by the words
 abbrev pub ending_told : (stay : Bool) → Ending
 ending_told true = Stay
 ending_told false = Close
 
-abbrev pub after_told : (keep_going : Bool) → AfterRefusal
-after_told true = GoOn
-after_told false = End
+abbrev pub after_told : (keep_going make_room : Bool) → AfterRefusal
+after_told keep_going make_room = record { makes_room = make_room; goes_on = keep_going }
 
--- What is said behind the operations. Nothing, where the journal stays or they ended before the last one; else the number of the next
--- transaction, of the device that the close left.
+-- The line after the operations: none if the journal stays or they ended early; else the next number, from the device that the close left.
 pub data SaysBehind {D : Type 0} (state : D → DeviceState) (honest : D → Type 0) (ending : Ending) (device left : D) (applied end : Result (Unit {0}) Fault)
     (said written : Option (List ℕ)) : Type 0 where
   SaysNothing : (ending ≡ Stay) ⊎ IsErr applied → left ≡ device → end ≡ applied → written ≡ said → SaysBehind state honest ending device left applied end said written
   SaysNumber : ending ≡ Close → IsOk applied → OnOk end (honest left → SaysNext (state device) said written) → SaysBehind state honest ending device left applied end said written
 
--- operations were applied to a journal on an opened log, with their lines; the device has only been read since
+-- operations were applied to a journal on an opened log, with their lines; since then the device was only read
 pub record IsOperated {D : Type 0} (state : D → DeviceState) (honest : D → Type 0) (opened : OpenedValue D) (operations : List Operation) (after : AfterRefusal) (ending : Ending)
     (left : D) (sealed : History) (shown : Option ℕ) (end : Result (Unit {0}) Fault) (before written : Option (List ℕ)) : Type 0 where
   pub device : D
@@ -71,8 +67,8 @@ pub record IsOperated {D : Type 0} (state : D → DeviceState) (honest : D → T
   pub stays : Stays (state device) (state left)
   pub behind : SaysBehind state honest ending device left applied end said written
 
--- The line of an opening was written, all was done behind it, and reads were honest at the opening where they are now. Where the journal was
--- closed the last line tells the number that the next opening gives the next transaction.
+-- The opening's line was written, all was done after it, and correct reads now mean correct reads at the opening. If the journal was
+-- closed, the last line has the number that the next opening gives the next transaction.
 pub record IsDoneBehind {D : Type 0} (state : D → DeviceState) (honest : D → Type 0) (opened : OpenedValue D) (operations : List Operation) (after : AfterRefusal) (ending : Ending)
     (left : D) (sealed : History) (shown : Option ℕ) (before : Option (List ℕ)) : Type 0 where
   pub begun : Option (List ℕ)
@@ -84,14 +80,14 @@ pub record IsDoneBehind {D : Type 0} (state : D → DeviceState) (honest : D →
   pub ends : ending ≡ Close → honest left → EndsWithNext (state left) written
   pub honest_before : honest left → honest opened.device
 
--- operations are those of a script's text, which is all that a reader had, where that is known, and which agrees with a device in this state,
--- where its reads were honest
+-- operations of a script's text, which is all that the reader had, if that is known; the text agrees with a device in this state, if reads
+-- were correct
 pub record AreForDevice (known : Option (List ℕ)) (state : DeviceState) (trust : Type 0) (operations : List Operation) : Type 0 where
   pub measures : Measures
   pub of_text : AreOfText known operations measures
   pub are : trust → AreOf state measures
 
--- so it was, of operations of a script for this device, behind an opening of it that was done; the lines went behind what this writer had
+-- all was done with operations of a script for this device, after an opening of it; the lines follow what the writer had
 pub record IsDoneTo {D : Type 0} (state : D → DeviceState) (honest : D → Type 0) (device : D) (known : Option (List ℕ)) (after : AfterRefusal) (ending : Ending) (left : D) (sealed : History) (shown : Option ℕ)
     (contents : Option (List ℕ)) : Type 0 where
   pub opened : OpenedValue D

@@ -1,4 +1,4 @@
--- What was done where a command ends with 0, as the words tell it.
+-- What a command with exit status 0 did, by its words.
 use Rattle.std.specs.Prelude.{◌≡◌, ⊤, ℕ, Bool, true, false, List, Option}
 use Rattle.journal_model.specs.Transaction.{History}
 use Rattle.block_device.specs.State.{DeviceState}
@@ -7,7 +7,7 @@ use Rattle.script_client.specs.Ended.{IsLeftClosed}
 use Rattle.jbench_words.specs.declared.words.ApplyWords.{ApplyWords}
 use Rattle.jbench_words.specs.declared.words.FormatWords.{FormatWords}
 use Rattle.jbench_words.specs.declared.words.Words.{Words}
-use Rattle.jbench_words.specs.declared.words.Words.TheVariants.{Run, Sweep, Check, Threads, Format, Dump, Cat, Show, Recover, Upgrade, Apply, Bench, Completions, Man}
+use Rattle.jbench_words.specs.declared.words.Words.TheVariants.{Run, Sweep, Check, Threads, Format, Dump, Cat, Show, Recover, Upgrade, Apply, Bench, Serve, Completions, Man}
 use Rattle.jbench_files.specs.Apart.{AreApart}
 use Rattle.jbench_files.specs.Cleared.{cleared, log_cleared}
 use Rattle.jbench_files.specs.Over.{IsOver}
@@ -26,7 +26,7 @@ pub record IsOverTwo (device : FileState) : Type 0 where
   pub apart : AreApart log home
   pub over : IsOver log.file home.file device
 
--- and these files this program made: that of the log, and where the home area is not kept that of it too
+-- this program made the log's file, and the home area's unless that is kept
 pub record IsOverNew (keep_home : Bool) (device : FileState) : Type 0 where
   pub log : RegularFile
   pub home : RegularFile
@@ -35,12 +35,12 @@ pub record IsOverNew (keep_home : Bool) (device : FileState) : Type 0 where
   pub log_is_made : log.is_made ≡ true
   pub home_is_made : keep_home ≡ false → home.is_made ≡ true
 
--- which files a log is made of, as the words tell
+-- a log's files, by the words
 abbrev pub over_told : (has_to_be_new keep_home : Bool) → FileState → Type 0
 over_told true keep_home device = IsOverNew keep_home device
 over_told false keep_home device = IsOverTwo device
 
--- this was done to a device over such files, which held this at first, where its reads were honest
+-- this was done to a device over such files with this first content, if its reads were correct
 pub record IsDoneOver (first : FileContents) (Over : FileState → Type 0) (Did : DeviceState → DeviceState → Type 0) : Type 0 where
   pub old : FileState
   pub over : Over old
@@ -51,14 +51,14 @@ pub record IsDoneOver (first : FileContents) (Over : FileState → Type 0) (Did 
 abbrev pub IsOverAny : FileState → Type 0
 IsOverAny device = ⊤
 
--- what `recover` did, by its options: with a dry run it found out what it would do
+-- what `recover` did, by its options
 abbrev pub Recovers : (dry_run before_damage : Bool) → DeviceState → DeviceState → Type 0
 Recovers true before_damage old new = IsFoundOut before_damage old
 Recovers false true old new = IsRecoveredBefore old new
 Recovers false false old new = IsRecovered old new
 
--- what `format` did to a device over two files, which had to be new where it was told so: they were cleared, or with a home area that is
--- kept the log alone was, and a log was made on them
+-- what `format` did to two files, which had to be new if the words ask for it: both were cleared, or only the log if home is kept; then a
+-- log was made
 abbrev pub to_format : (keep_home : Bool) → FileContents → FileContents
 to_format true first = log_cleared first
 to_format false first = cleared first
@@ -67,16 +67,15 @@ abbrev pub IsFormatDone : FileContents → FormatWords → Type 0
 IsFormatDone first words =
     IsDoneOver (to_format words.keep_home first) (over_told words.has_to_be_new words.keep_home) (λ old new. IsMade words.measures.log_blocks words.measures.uuid words.measures.wide old new)
 
--- what reads of a text are to give, where that is known
+-- what reads of a text give, if that is known
 abbrev pub TextReads : Type 0
 TextReads = Text → Option (List ℕ)
 
--- this was done with the text of a file or a pipe that was opened: all that reads of it are to give
+-- this was done with the text of an opened file or pipe, as its reads give it
 abbrev pub IsOfText : TextReads → (Did : Option (List ℕ) → Type 0) → Type 0
 IsOfText reads Did = (script : Text) × Did (reads script)
 
--- what `apply` did to a device over two files: all operations of its script's text were applied, and the journal was closed, where it was
--- not told to stay
+-- what `apply` did over two files: it applied its script's operations, and closed the journal unless it had to stay
 pub record IsAppliedOver (first : FileContents) (reads : TextReads) (words : ApplyWords) (contents : Option (List ℕ)) : Type 0 where
   pub script : Text
   pub old : FileState
@@ -84,11 +83,11 @@ pub record IsAppliedOver (first : FileContents) (reads : TextReads) (words : App
   pub left : FileState
   pub sealed : History
   pub shown : Option ℕ
-  pub done : IsDoneTo (file_state first) (HasAgreed first) old (reads script) (after_told words.keep_going) (ending_told words.stay) left sealed shown contents
+  pub done : IsDoneTo (file_state first) (HasAgreed first) old (reads script) (after_told words.keep_going words.make_room) (ending_told words.stay) left sealed shown contents
   pub closed : words.stay ≡ false → HasAgreed first left → IsLeftClosed (file_state first left) sealed
 
--- What was done by the command that the words name, over files of a log that held this at first, whose output has these contents at
--- first, where reads of a text give what is known of them. Commands that want threads are not done here.
+-- What the command did, over log files with this first content, an output with these first contents, and texts whose reads are known so.
+-- Commands that need threads are not done here.
 abbrev pub HasObeyed : (first : FileContents) → (reads : TextReads) → (contents : Option (List ℕ)) → Words → Type 0
 HasObeyed first reads contents (Run words) = IsOfText reads (λ text. HasRun (runs_told words.image) text words true)
 HasObeyed first reads contents (Sweep words) = IsOfText reads (λ text. HasSwept text words.fails 0)
@@ -102,10 +101,11 @@ HasObeyed first reads contents (Recover words) = IsDoneOver first IsOverTwo (Rec
 HasObeyed first reads contents (Upgrade path) = IsDoneOver first IsOverAny HasUpgraded
 HasObeyed first reads contents (Apply words) = IsAppliedOver first reads words contents
 HasObeyed first reads contents (Bench words) = ⊥
+HasObeyed first reads contents (Serve words) = ⊥
 HasObeyed first reads contents (Completions shell) = ⊤
 HasObeyed first reads contents Man = ⊤
 
--- none ends with 2: a sweep counts no opening that was not right
+-- none ends with 2: a sweep counts only right openings
 abbrev pub HasFoundWrong : Words → Type 0
 HasFoundWrong (Run words) = ⊥
 HasFoundWrong (Sweep words) = ⊥
@@ -119,5 +119,6 @@ HasFoundWrong (Recover words) = ⊥
 HasFoundWrong (Upgrade path) = ⊥
 HasFoundWrong (Apply words) = ⊥
 HasFoundWrong (Bench words) = ⊥
+HasFoundWrong (Serve words) = ⊥
 HasFoundWrong (Completions shell) = ⊥
 HasFoundWrong Man = ⊥

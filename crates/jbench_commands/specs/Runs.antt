@@ -1,4 +1,4 @@
--- Which script a command took, and what the command `run` did with it.
+-- The script of a command, and what `run` did with it.
 use Rattle.std.specs.Prelude.{◌≡◌, ◌⊎◌, ℕ, ◌≤◌, Bool, List, Option, Some, None, IfSome}
 use Rattle.block_device.specs.State.{DeviceState}
 use Rattle.journal_script.specs.Clients.{CanBeServed, IsClientScriptOf}
@@ -18,34 +18,34 @@ use Rattle.script_run.specs.declared.stops.Stops.{Stops}
 use Rattle.jbench_commands.specs.declared.check.Good.{Good}
 use Rattle.jbench_commands.specs.declared.check.Good.TheVariants.{Operations, Clients}
 
--- the text is all that a reader had, where that is known
+-- the text is all that the reader had, if that is known
 abbrev pub IsWhole : (known : Option (List ℕ)) → List ℕ → Type 0
 IsWhole known text = IfSome known (λ bytes. text ≡ bytes)
 
--- operations are those of such a text, which speaks of a device with these measures
+-- the operations of such a text, which names a device of these measures
 pub record AreOfText (known : Option (List ℕ)) (operations : List Operation) (measures : Measures) : Type 0 where
   pub text : List ℕ
   pub whole : IsWhole known text
   pub is : IsTextOf text operations measures
 
--- a script has the operations and the measures of such a text, within their limits, and the defaults for keys that do not stand in it
+-- a script with such a text's operations and measures, within their limits, and the defaults of missing keys
 pub record IsTaken (known : Option (List ℕ)) (script : Script) : Type 0 where
   pub of_text : AreOfText known script.operations.items script.measures
   pub limited : AreLimited script.measures
   pub defaults : IsDefaultElse of_text.is.script script.measures
 
--- such a script was taken
+-- such a script was accepted
 pub record HasTaken (known : Option (List ℕ)) : Type 0 where
   pub script : Script
   pub taken : IsTaken known script
 
--- a script of clients is that of such a text
+-- such a text's script of clients
 pub record IsClientTaken (known : Option (List ℕ)) (script : ClientScript) : Type 0 where
   pub text : List ℕ
   pub whole : IsWhole known text
   pub is : IsClientScriptOf text script
 
--- or such a script of clients was taken, which can be served
+-- such a script was accepted, or one of clients that can be served
 pub record HasTakenClients (known : Option (List ℕ)) : Type 0 where
   pub script : ClientScript
   pub of_text : IsClientTaken known script
@@ -54,40 +54,40 @@ pub record HasTakenClients (known : Option (List ℕ)) : Type 0 where
 abbrev pub HasTakenEither : Option (List ℕ) → Type 0
 HasTakenEither known = HasTaken known ⊎ HasTakenClients known
 
--- a good script is that of a text
+-- a good script of this text
 abbrev pub IsGoodOf : List ℕ → Good → Type 0
 IsGoodOf text (Operations script) = IsScriptOf text script.operations.items script.measures × AreLimited script.measures
 IsGoodOf text (Clients script) = IsClientScriptOf text script × CanBeServed script
 
--- a device is to stop at the write that the words tell, and then keeps those that they tell
+-- a device stops at the words' write, and keeps the words' writes
 pub record IsStopTold (words : StopWords) (stop : Stop) : Type 0 where
   pub at_write : stop.at_write ≡ words.at_write
   pub keep : stop.keep.now ≡ words.keep.items
 
--- the stop of the run, that of the opening, and the call that fails are those of the words
+-- the stops of the run and the opening, and the failing call, are the words'
 pub record AreStopsTold (words : RunWords) (stops : Stops) : Type 0 where
   pub failing_call : stops.failing_call ≡ words.failing_call
   pub run : IsStopTold words.run stops.run
   pub opening : IsStopTold words.opening stops.opening
 
--- a script was run with the stops that the words tell, and this is the verdict
+-- a script was run with the words' stops, with this verdict
 pub record IsRunAsTold (Runs : Script → Stops → Bool → Type 0) (words : RunWords) (script : Script) (right : Bool) : Type 0 where
   pub stops : Stops
   pub told : AreStopsTold words stops
   pub run : Runs script stops right
 
--- a run left a copy of its image on a device, and the home area is not too large for that
+-- a run copied its image to a device, and home is small enough
 pub record IsRunWithImage (script : Script) (stops : Stops) (right : Bool) : Type 0 where
   pub device : DeviceState
   pub run : IsCopiedRun script stops device right
   pub small : script.measures.home_blocks ≤ 1048576
 
--- a run leaves a copy where the words name files for it
+-- a run copies its image if the words name files for it
 abbrev pub runs_told : Option LogPaths → Script → Stops → Bool → Type 0
 runs_told None script stops right = IsRunOf script stops right
 runs_told (Some paths) script stops right = IsRunWithImage script stops right
 
--- a script was taken, and run so
+-- a script was accepted and run
 pub record HasRun (Runs : Script → Stops → Bool → Type 0) (known : Option (List ℕ)) (words : RunWords) (right : Bool) : Type 0 where
   pub script : Script
   pub taken : IsTaken known script

@@ -8,20 +8,20 @@ use Rattle.script_sweep.specs.declared.counts.FailureCounts.{FailureCounts}
 use Rattle.script_sweep.specs.Sweeping.{IsFailureSweep, IsSweep, capped, not_right_of}
 use Rattle.jbench_commands.specs.Runs.{IsTaken}
 
--- a script was swept with a stop at each of its writes, and so many openings were not right
+-- a script was swept with a stop at each of its writes, and this many openings were not right
 pub record HasSweptStops (script : Script) (count : ℕ) : Type 0 where
   pub counts : Counts
   pub is : IsSweep (Unit {0}) script counts
   pub counted : count ≡ not_right_of counts.not_right
 
--- it was swept with each of its calls failing, and so many were not right
+-- it was swept with each of its calls failing, and this many openings were not right
 pub record HasSweptFailures (script : Script) (count : ℕ) : Type 0 where
   pub counts : FailureCounts
   pub is : IsFailureSweep (Unit {0}) script counts
   pub counted : count ≡ not_right_of counts.not_right
 
--- a script of a text was swept with a stop at each of its writes, and where it is told so, with each of its calls failing; so many openings
--- were not right in all
+-- a text's script was swept with a stop at each of its writes and, if asked, with each of its calls failing; this many openings in all were
+-- not right
 pub record HasSwept (known : Option (List ℕ)) (fails : Bool) (count : ℕ) : Type 0 where
   pub script : Script
   pub taken : IsTaken known script
@@ -30,7 +30,7 @@ pub record HasSwept (known : Option (List ℕ)) (fails : Bool) (count : ℕ) : T
   pub alone : fails ≡ false → count ≡ of_stops
   pub more : fails ≡ true → (of_failures : ℕ) × HasSweptFailures script of_failures × (count ≡ capped (of_stops + of_failures))
 
--- the command did what it was asked where it swept, and each opening was right; else it was refused
+-- the command succeeded if it swept and each opening was right; else it was refused
 pub record IsSweptTo (known : Option (List ℕ)) (fails : Bool) (status : Status) : Type 0 where
   pub fine : status ≡ Fine → HasSwept known fails 0
   pub other : status ≢ Fine → status ≡ Refused

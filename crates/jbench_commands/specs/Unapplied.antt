@@ -1,4 +1,4 @@
--- What an apply that was refused leaves.
+-- What a refused apply leaves.
 use Rattle.std.specs.Prelude.{◌≡◌, ℕ, List, Option, Result, IsErr}
 use Rattle.journal_model.specs.Transaction.{History}
 use Rattle.block_device.specs.State.{DeviceState, EachMoment}
@@ -15,8 +15,8 @@ use Rattle.jbench_commands.specs.declared.apply.Unapplied.{Unapplied}
 use Rattle.jbench_commands.specs.declared.apply.Unapplied.TheVariants.{Unbegun, Undone, Unopened}
 use Rattle.jbench_commands.specs.Applying.{AreForDevice, IsOperated}
 
--- Operations were applied on an opened log, up to the one that was refused, or to the close; what was committed by then is in the log or
--- at home, and of a transaction that was not, nothing is.
+-- Operations were applied on an opened log until one or the close was refused. Committed transactions are in the log or at home, and
+-- nothing of others is.
 pub record IsUndone {D : Type 0} (state : D → DeviceState) (honest : D → Type 0) (opened : OpenedValue D) (operations : List Operation) (after : AfterRefusal) (ending : Ending)
     (left : D) (sealed : History) (shown : Option ℕ) : Type 0 where
   pub begun : Option (List ℕ)
@@ -27,14 +27,14 @@ pub record IsUndone {D : Type 0} (state : D → DeviceState) (honest : D → Typ
   pub ended : honest left → IsEnded IsAnyHome operations (state left) sealed shown
   pub honest_before : honest left → honest opened.device
 
--- what is left of an opened log: its device as it was, or what such operations left
+-- what an opened log leaves: its device unchanged, or what such operations left
 abbrev pub IsUnappliedBehind : {D : Type 0} → (state : D → DeviceState) → (honest : D → Type 0) → OpenedValue D → List Operation → AfterRefusal → Ending → Unapplied D → Type 0
 IsUnappliedBehind state honest opened operations after ending (Unopened device) = ⊥
 IsUnappliedBehind state honest opened operations after ending (Unbegun device) = device ≡ opened.device
 IsUnappliedBehind state honest opened operations after ending (Undone left) =
     IsUndone state honest opened operations after ending left.device left.sealed.items left.acknowledged
 
--- an opening of this device was done, and such operations of a script for it were applied behind
+-- this device was opened, and then such operations of a script for it were applied
 pub record IsUndoneOf {D : Type 0} (state : D → DeviceState) (honest : D → Type 0) (device : D) (known : Option (List ℕ)) (after : AfterRefusal) (ending : Ending)
     (left : D) (sealed : History) (shown : Option ℕ) : Type 0 where
   pub opened : OpenedValue D
@@ -43,14 +43,13 @@ pub record IsUndoneOf {D : Type 0} (state : D → DeviceState) (honest : D → T
   pub for_device : AreForDevice known (state device) (honest opened.device) operations
   pub undone : IsUndone state honest opened operations after ending left sealed shown
 
--- an opening of a device was done, and this is what it left
+-- a device was opened, and this is left
 pub record IsOpenedOnly {D : Type 0} (state : D → DeviceState) (honest : D → Type 0) (device left : D) : Type 0 where
   pub superblock : List ℕ
   pub next : ℕ
   pub opens : honest left → IsOpening (state device).shape (state device).disk (state left).disk superblock next
 
--- What is left of a device: no more was done than a refused opening does, at each moment; or it was opened, and no more; or such
--- operations were applied.
+-- What a device leaves: no more than a refused opening, at each moment; or it was only opened; or such operations were applied.
 abbrev pub IsUnapplied : {D : Type 0} → (state : D → DeviceState) → (honest : D → Type 0) → D → (known : Option (List ℕ)) → AfterRefusal → Ending → Unapplied D → Type 0
 IsUnapplied state honest device known after ending (Unopened left) = honest left → EachMoment (IsMoment (state device).shape (state device).disk) (state device) (state left)
 IsUnapplied state honest device known after ending (Unbegun left) = IsOpenedOnly state honest device left

@@ -1,4 +1,4 @@
-//! The command `apply`, over devices: does the operations of a script over a log in files.
+//! The command `apply`, over devices: applies a script's operations to a log in files.
 ghost use Rattle.std.specs.Prelude.{◌≡◌, false, IfErr, IfOk, IsErr, IsOk, OnOk};
 ghost use Rattle.jbench_commands.specs.declared.apply.Unapplied.TheVariants.{Undone};
 ghost use Rattle.journal_model.specs.declared.refusal.JournalError.TheVariants.{Memory};
@@ -16,7 +16,7 @@ ghost use Rattle.jbench_commands.specs.Applying.{AreForDevice, AreOf, EndsWithNe
 
 use crate::faults::of_run;
 use crate::run::read_text;
-use crate::uncommitted::{changes_in, say_uncommitted};
+use crate::uncommitted::{changes_in, say_open_wait, say_uncommitted};
 use block_device::{Device, read_block};
 use jbench_logs::logs::{refuse, say_opened};
 use jbench_words::fault::{self, Fault};
@@ -31,33 +31,32 @@ use std::alloc::Global;
 use std::io;
 use std::io::{LineWriter, Read, Write};
 
-/// What an apply needs before it opens the log: the operations, and the output by lines.
+/// What an apply needs before it opens the log: the operations, and line-buffered output.
 #[derive(Drop)]
 struct Prepared<W: Write + Drop> {
     operations: Vec<Operation>,
     out: LineWriter<W>,
 }
 
-/// What an apply that was refused leaves.
+/// What a refused apply leaves.
 #[derive(Drop)]
 pub enum Unapplied<D> {
-    /// The device, whose log was not opened: no more was done of that than a refused opening does.
+    /// The device, whose log was not opened: no more was done than a refused opening does.
     Unopened(D),
-    /// The device, on which the log was opened, and no operation was done.
+    /// The device, whose log was opened; no operation was done.
     Unbegun(D),
-    /// What the operations left that were done, up to the one that was refused, or to the close.
+    /// What the operations left, up to the refused one or the close.
     Undone(Performed<D>),
 }
 
-/// Opens the log of a device, and prints what was found; does the operations of a script, and prints a line for each, up to the first
-/// that is refused, where the words don't tell to go on; and closes the journal, where they don't tell that it is to stay. Keys of the
-/// script that speak of the device have to agree with it. What is left comes back where all was done. Else one line on `err` says why it
-/// was not, and what is left then comes back: what was committed by then is in the log or at home, and of a transaction that was not,
-/// nothing is.
+/// Opens a device's log and prints the report, then applies a script's operations and prints a line for each. Then it closes the journal,
+/// unless the words ask it to stay. The first refused operation is the last, unless the words ask to go on. If they ask to make room, a
+/// checkpoint round precedes an operation that the ring has no room for. Keys of the script that describe the device must agree with it.
+/// After a refusal a line on `err` says why. Committed transactions are then in the log or at home, and nothing of others is.
 ///
 /// # Errors
 ///
-/// The output can't be written.
+/// The output could not be written.
 pub fn apply<D: Device + Drop, R: Read + Drop, W: Write + Drop, E: Write + Drop>(
     alloc: Global,
     words: &ApplyWords<'_>,
@@ -69,8 +68,8 @@ pub fn apply<D: Device + Drop, R: Read + Drop, W: Write + Drop, E: Write + Drop>
     ensures closed { words.now.stay ≡ false → IfOk result (λ done. IfOk done (λ left. D.honest left.device →
         IsLeftClosed (D.state left.device) left.sealed.items)) }
     ensures done { IfOk result (λ done. IfOk done (λ left.
-        IsDoneTo D.state D.honest device (R.remaining script) (after_told words.now.keep_going) (ending_told words.now.stay) left.device left.sealed.items left.acknowledged (W.contents out))) }
-    ensures left { IfOk result (λ done. IfErr done (IsUnapplied D.state D.honest device (R.remaining script) (after_told words.now.keep_going) (ending_told words.now.stay))) }
+        IsDoneTo D.state D.honest device (R.remaining script) (after_told words.now.keep_going words.now.make_room) (ending_told words.now.stay) left.device left.sealed.items left.acknowledged (W.contents out))) }
+    ensures left { IfOk result (λ done. IfErr done (IsUnapplied D.state D.honest device (R.remaining script) (after_told words.now.keep_going words.now.make_room) (ending_told words.now.stay))) }
 {
     let (mut device, mut err) = (device, err);
     let prepared = match prepare(alloc, &mut device, script, out) {
@@ -85,6 +84,7 @@ pub fn apply<D: Device + Drop, R: Read + Drop, W: Write + Drop, E: Write + Drop>
         Ok(opened) => match apply_script(alloc, words, opened, prepared) {
             Ok(left) => {
                 say_uncommitted(words, changes, &left.sealed, &mut err)?;
+                say_open_wait(&left, &mut err)?;
                 Ok(Ok(left))
             }
             Err((unapplied, fault)) => {
@@ -100,7 +100,7 @@ pub fn apply<D: Device + Drop, R: Read + Drop, W: Write + Drop, E: Write + Drop>
     }
 }
 
-/// The device that an apply leaves, whether all was done or not.
+/// The device that an apply leaves, in either case.
 pub fn device_of<D>(done: &Result<Performed<D>, Unapplied<D>>) -> &D {
     match done {
         Ok(left) => &left.device,
@@ -109,7 +109,7 @@ pub fn device_of<D>(done: &Result<Performed<D>, Unapplied<D>>) -> &D {
     }
 }
 
-/// Says why a script was not applied.
+/// Prints why a script was not applied.
 fn say_refused(words: &ApplyWords<'_>, fault: Fault, err: &mut impl Write) -> io::Result<()> {
     match fault {
         Fault::Output(e) => Err(e),
@@ -120,7 +120,7 @@ fn say_refused(words: &ApplyWords<'_>, fault: Fault, err: &mut impl Write) -> io
     }
 }
 
-/// Reads the operations of a script that agrees with a device, and makes the output one by lines.
+/// Reads the operations of a script that agrees with a device, and buffers the output by lines.
 fn prepare<D: Device, R: Read + Drop, W: Write + Drop>(
     alloc: Global,
     device: &mut D,
@@ -137,7 +137,7 @@ fn prepare<D: Device, R: Read + Drop, W: Write + Drop>(
     })
 }
 
-/// Does operations over an opened log.
+/// Applies operations to an opened log.
 fn apply_script<D: Device + Drop, W: Write + Drop>(
     alloc: Global,
     words: &ApplyWords<'_>,
@@ -146,8 +146,8 @@ fn apply_script<D: Device + Drop, W: Write + Drop>(
 ) -> Result<Performed<D>, (Unapplied<D>, Fault)>
     ensures closed { words.now.stay ≡ false → IfOk result (λ left. D.honest left.device →
         IsLeftClosed (D.state left.device) left.sealed.items) }
-    ensures left { IfErr result (λ e. IsUnappliedBehind D.state D.honest opened prepared.operations.items (after_told words.now.keep_going) (ending_told words.now.stay) e.0) }
-    ensures done { IfOk result (λ left. IsDoneBehind D.state D.honest opened prepared.operations.items (after_told words.now.keep_going) (ending_told words.now.stay)
+    ensures left { IfErr result (λ e. IsUnappliedBehind D.state D.honest opened prepared.operations.items (after_told words.now.keep_going words.now.make_room) (ending_told words.now.stay) e.0) }
+    ensures done { IfOk result (λ left. IsDoneBehind D.state D.honest opened prepared.operations.items (after_told words.now.keep_going words.now.make_room) (ending_told words.now.stay)
         left.device left.sealed.items left.acknowledged (line_writer_contents W.contents prepared.out)) }
 {
     let Prepared {
@@ -162,7 +162,7 @@ fn apply_script<D: Device + Drop, W: Write + Drop>(
         alloc,
         opened,
         &operations,
-        after_of(words.keep_going),
+        after_of(words.keep_going, words.make_room),
         ending_of(words.stay),
         &mut out,
     ) {
@@ -171,7 +171,7 @@ fn apply_script<D: Device + Drop, W: Write + Drop>(
     }
 }
 
-/// What is left of operations that were applied, and why not all was done, where it was not.
+/// What applied operations leave; and why not all was done, if so.
 fn left_of<D: Device>(applied: Applied<D>) -> Result<Performed<D>, (Unapplied<D>, Fault)>
     ensures all { IfOk result (λ left. IsOk applied.end × (left ≡ applied.left)) }
     ensures err { IfErr result (λ e. IsErr applied.end × (e.0 ≡ Undone applied.left)) }
@@ -183,21 +183,20 @@ fn left_of<D: Device>(applied: Applied<D>) -> Result<Performed<D>, (Unapplied<D>
     }
 }
 
-/// How the journal is left, as the words tell.
+/// How the journal is left, by the words.
 fn ending_of(stay: bool) -> Ending
     ensures { result ≡ ending_told stay }
 {
     if stay { Ending::Stay } else { Ending::Close }
 }
 
-/// What comes behind a refused operation, as the words tell.
-fn after_of(keep_going: bool) -> AfterRefusal
-    ensures { result ≡ after_told keep_going }
+/// What a refused operation does, by the words.
+fn after_of(keep_going: bool, make_room: bool) -> AfterRefusal
+    ensures { result ≡ after_told keep_going make_room }
 {
-    if keep_going {
-        AfterRefusal::GoOn
-    } else {
-        AfterRefusal::End
+    AfterRefusal {
+        makes_room: make_room,
+        goes_on: keep_going,
     }
 }
 
@@ -215,11 +214,11 @@ fn read_operations<D: Device, R: Read + Drop>(
     Ok(journal_script::read_over(alloc, &text, &measures)?)
 }
 
-/// The measures of a device and of the log on it.
+/// The measures of a device and its log.
 ///
 /// # Errors
 ///
-/// `Device`, `Memory`, and those of its superblock.
+/// `Device`, `Memory`, and the refusals of its superblock.
 fn measures_of<D: Device>(alloc: Global, device: &mut D) -> Result<Measures, JournalError>
     ensures measures { IfOk result (λ measures. D.honest device.new → AreOf (D.state device.old) measures) }
     ensures stays { Stays (D.state device.old) (D.state device.new) }
@@ -248,15 +247,15 @@ fn read_super<D: Device>(alloc: Global, device: &mut D) -> Result<Super, Journal
     Super::read(block.bytes(), log_blocks)
 }
 
-/// Does operations on a new journal on an opened log, of whose disk `H` is known, and prints a line for each. `after` tells which refused
-/// one is the last; one that is refused because the device failed always is. All open handles are stopped behind the last, and then the
-/// journal is closed, where `ending` tells so: the last line is then the number that the next opening will give the next transaction. What
-/// is left comes back however the work ended. It is not closed where `end` is an error, but for one that came behind the close: its line
-/// could not be written, or the superblock not be read for it. What was committed is in the log or at home.
+/// Performs operations on a new journal on an opened log, and prints a line for each; `H` is known of its disk. `after` says whether a
+/// refused operation is the last and whether room is made for one; after a device failure it is always the last. Then open handles stop,
+/// and the journal is closed if `ending` is `Close`; the last line then has the number that the next opening gives the next transaction.
+/// In each case the device comes back. If `end` is an error, the journal is not closed, unless the error came after the close: its line
+/// could not be written, or the superblock not be read. Committed transactions are in the log or at home.
 ///
 /// # Errors
 ///
-/// `Memory` where there is none for the journal: nothing was done, and the opened log comes back.
+/// `Memory`: there was none for the journal. Nothing was done, and the opened log comes back.
 pub fn apply_operations<D: Device + Drop, H: HomeFact, W: Write>(
     alloc: Global,
     opened: Opened<D>,
@@ -285,7 +284,7 @@ pub fn apply_operations<D: Device + Drop, H: HomeFact, W: Write>(
     }
 }
 
-/// Says which number comes next, where a journal was closed behind all operations.
+/// Prints the next number, if a journal was closed after all operations.
 fn say_end<D: Device + Drop, W: Write>(
     alloc: Global,
     ending: Ending,
@@ -303,7 +302,7 @@ fn say_end<D: Device + Drop, W: Write>(
     }
 }
 
-/// Says which number comes next, where the close was done.
+/// Prints the next number, if the close succeeded.
 fn say_close<D: Device + Drop, W: Write>(
     alloc: Global,
     applied: Applied<D>,
@@ -320,7 +319,7 @@ fn say_close<D: Device + Drop, W: Write>(
     say_closed(alloc, applied, out)
 }
 
-/// Says which number the next opening of a log that was closed gives the next transaction.
+/// Prints the number that the next opening of a closed log gives the next transaction.
 fn say_closed<D: Device + Drop, W: Write>(
     alloc: Global,
     applied: Applied<D>,
@@ -337,7 +336,7 @@ fn say_closed<D: Device + Drop, W: Write>(
     Applied { left, end }
 }
 
-/// Reads the superblock of a log that was closed, and writes the line of that.
+/// Reads the superblock of a closed log, and writes the close's line.
 fn write_closed<D: Device, W: Write>(
     alloc: Global,
     device: &mut D,
@@ -351,8 +350,7 @@ fn write_closed<D: Device, W: Write>(
     Ok(())
 }
 
-/// Writes the line of a close, behind which this number is the greatest of a clean log: the next transaction has the one behind it, where
-/// one is left.
+/// Writes the close's line for a clean log whose greatest number is `limit`: the next transaction has the number after it, if one is left.
 fn write_next<W: Write>(limit: u32, out: &mut W) -> io::Result<()>
     ensures { OnOk result (Appends (W.contents out.old) (W.contents out.new) (closed_line limit)) }
 {

@@ -1,4 +1,4 @@
-//! The command `check`: says whether a script is good, one of operations or one of clients.
+//! The command `check`: says whether a script of operations or clients is good.
 ghost use Rattle.std.specs.Prelude.{◌≡◌, ◌≢◌, IfOk, IsOk};
 ghost use Rattle.jbench_words.specs.declared.fault.Status.TheVariants.{Fine, Refused};
 ghost use Rattle.jbench_commands.specs.Runs.{HasTakenEither, IsGoodOf};
@@ -10,25 +10,23 @@ use std::alloc::Global;
 use std::io;
 use std::io::{Read, Write};
 
-/// The key that a script of clients has, and one of operations has not.
+/// The key of scripts of clients alone.
 const CLIENTS: &str = "clients";
 
-/// A good script.
 #[derive(Drop)]
 enum Good {
-    /// One of operations, which `run` takes.
+    /// A script for `run`.
     Operations(Script),
-    /// One of clients, which `threads` takes.
+    /// A script for `threads`.
     Clients(ClientScript),
 }
 
-/// Says whether a text is a script: how many operations it has, or how many clients, with their handles and receipts, on `out`; or which
-/// key or operation is bad and why, on a line on `err`. One with the key `clients` is judged as `threads` does it, and each other one as
-/// `run` does. `path` names its file.
+/// Says whether a text is a script. `out` gets the count of operations, or the counts of clients, handles and receipts; `err` gets the bad
+/// key or operation and why. A text with the key `clients` is tested for `threads`, any other for `run`. `path` names its file.
 ///
 /// # Errors
 ///
-/// The output can't be written.
+/// The output could not be written.
 pub fn check<R: Read + Drop, W: Write + Drop, E: Write + Drop>(
     alloc: Global,
     path: &str,
@@ -49,7 +47,7 @@ pub fn check<R: Read + Drop, W: Write + Drop, E: Write + Drop>(
     }
 }
 
-/// Reads a script of either kind: one of clients where the key of these is what keeps it from being one of operations.
+/// Reads a script of either kind: one of clients if their key is the fault of a script of operations.
 fn read_either(alloc: Global, text: &[u8]) -> Result<Good, ScriptError>
     ensures { IfOk result (IsGoodOf text.now) }
 {
@@ -65,7 +63,7 @@ fn read_either(alloc: Global, text: &[u8]) -> Result<Good, ScriptError>
     }
 }
 
-/// Whether the key of clients is what keeps a script from being one of operations.
+/// Whether the key of clients is the fault of a script of operations.
 fn names_clients(error: &ScriptError) -> bool {
     match error {
         ScriptError::BadScript(BadScript::UnknownKey(name)) => name.as_str() == CLIENTS,
@@ -73,7 +71,6 @@ fn names_clients(error: &ScriptError) -> bool {
     }
 }
 
-/// Reads a script of clients.
 fn read_clients(alloc: Global, text: &[u8]) -> Result<Good, ScriptError>
     ensures { IfOk result (IsGoodOf text.now) }
 {
@@ -83,7 +80,7 @@ fn read_clients(alloc: Global, text: &[u8]) -> Result<Good, ScriptError>
     }
 }
 
-/// Says what reading a script came to.
+/// Prints the result of reading a script.
 fn tell<W: Write + Drop, E: Write>(
     read: Result<Good, ScriptError>,
     out: W,
@@ -103,7 +100,6 @@ fn tell<W: Write + Drop, E: Write>(
     }
 }
 
-/// Says that a script is good.
 fn say_good<W: Write + Drop>(good: &Good, out: W) -> io::Result<Status>
     ensures { IfOk result (λ status. status ≡ Fine) }
 {

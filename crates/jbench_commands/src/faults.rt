@@ -1,9 +1,9 @@
-//! Why a command can't go on where a script's operations, or a run of them, can't.
+//! Translates the fault of a script's run into a command's.
 ghost use Rattle.jbench_words.specs.Images.{IsUnmade};
 
 use jbench_words::fault::Fault;
 
-/// Why a run can't go on, as its command says it: never that the files of an image can't be made.
+/// A run's fault as its command reports it; it is never one of an image's files.
 pub(crate) fn of_run(fault: script_client::Fault) -> Fault
     ensures { ¬ IsUnmade result }
 {

@@ -1,17 +1,16 @@
-//! The files that take the image of a run.
+//! The files that take a run's image.
 use crate::run::MakeImage;
 use file_device::{FileDevice, UnknownContents};
 use jbench_files::{Cleared, LogPair, make_device};
+use jbench_words::watch::Unwatched;
 use journal_script::Measures;
 use std::alloc::Global;
 use std::io;
 
-/// The two files that take what the stop of a run leaves. Both are open, and lose what they hold once the script is taken.
+/// The two files that take a run's crash image. They are open, and lose their content once the script is accepted.
 #[derive(Drop)]
 pub struct ImageFiles {
-    /// The memory of the device over them.
     pub alloc: Global,
-    /// Both files.
     pub files: LogPair,
 }
 
@@ -20,7 +19,7 @@ impl MakeImage for ImageFiles {
 
     fn make(self, measures: &Measures) -> io::Result<FileDevice<Cleared<UnknownContents>>> {
         let ImageFiles { alloc, files } = self;
-        match make_device(alloc, UnknownContents, measures, files) {
+        match make_device(alloc, UnknownContents, measures, files, &mut Unwatched) {
             Ok(device) => Ok(device),
             Err(unmade) => Err(unmade.error),
         }

@@ -1,11 +1,9 @@
-//! The commands of the program `jbench`: what they print, and how they end. Each takes its reader or device and its two writers
-//! from the caller; `obeying` opens the files that the words name, by `jbench_files`, and `progress` is the line on a terminal that
-//! shows how far a command is.
+//! The commands of `jbench`: what they print, and how they end. The caller gives each its reader or device and its two writers. `obeying`
+//! opens the files that the words name, and `progress` shows a command's progress on a terminal.
 //!
-//! Over the files of a log `apply` does a script's operations; the commands that need no more than a log are in `jbench_logs`. Over a
-//! script and a disk in memory: `run`, `sweep` and `check`; `image` has the files that take what a run leaves,
-//! and `object` has its lines as one object. `faults` says in a
-//! command's words why a run can't go on, and `uncommitted` which changes no commit took.
+//! `apply` applies a script's operations to a log in files; `jbench_logs` has the commands on a log alone. `run`, `sweep` and `check` take
+//! a script and a disk in memory: `image` has the files for a run's image, `object` prints its lines as JSON. `faults` translates a run's
+//! faults, and `uncommitted` counts the changes that no commit took.
 #![tactic(auto)]
 
 pub mod apply;

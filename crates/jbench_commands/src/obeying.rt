@@ -1,7 +1,8 @@
-//! Opens the files that the words name, and does what the words tell.
+//! Opens the files that the words name, and runs the command on them.
 ghost use Rattle.std.specs.Prelude.{◌≡◌, ◌≢◌, ◌↔◌, Bool, IfOk, IsOk, false, true};
 ghost use Rattle.jbench_words.specs.declared.fault.Status.TheVariants.{Fine, Refused, VerdictFalse};
 ghost use Rattle.jbench_files.specs.Cleared.{cleared, log_cleared};
+ghost use Rattle.jbench_files.specs.Over.{IsOver};
 ghost use Rattle.jbench_logs.specs.Done.{HasUpgraded, IsMade};
 ghost use Rattle.jbench_views.specs.Looked.{HasDumped, HasLeft};
 ghost use Rattle.jbench_commands.specs.Obeying.{HasFoundWrong, HasObeyed, IsAppliedOver, IsDoneOver, IsFormatDone, IsOfText, IsOverAny, IsOverTwo, Recovers, over_told};
@@ -13,16 +14,17 @@ use crate::progress::Progress;
 use crate::{apply, check, run, sweep};
 use file_device::{Contents, FileDevice};
 use jbench_files::{
-    KeptPair, LogPair, RegularFile, Text, Unopened, device_before, device_of, device_to_read,
-    home_bytes, make_device, make_log, make_log_device, make_pair, open_log, open_log_to_write,
-    open_or_make_log, open_or_make_pair, open_pair, open_pair_to_read, open_script, open_text,
-    say_failure,
+    Cleared, KeptPair, LogCleared, LogPair, RegularFile, Text, Unmade, Unopened, device_before,
+    device_of, device_to_read, home_bytes, make_device, make_log, make_log_device, make_pair,
+    open_log, open_log_to_write, open_or_make_log, open_or_make_pair, open_pair_to_read_within,
+    open_pair_within, open_script, open_text, say_failure,
 };
 use jbench_help::{Shell, write_completions, write_manual};
 use jbench_logs::overwriting::say_overwritten;
 use jbench_logs::{logs, recovering, show};
 use jbench_views::{cat, dump};
 use jbench_words::fault::{self, Fault, Status, refuse_file};
+use jbench_words::watch::Watch;
 use jbench_words::words::{
     ApplyWords, CatWords, DumpWords, FormatWords, LogPaths, RecoverWords, RunWords, SweepWords,
     Words,
@@ -32,8 +34,8 @@ use std::alloc::Global;
 use std::io;
 use std::io::{ErrorKind, Read, Write};
 
-/// Does what the words tell. `contents` says what is supposed of the files of a log. The commands `threads` and `bench` want threads,
-/// which are not to be had here: they are refused as for want of memory (`jbench_threads` has them).
+/// Runs the command that the words name. `contents` is what a log's files are assumed to hold. `threads`, `bench` and `serve` are refused
+/// like a lack of memory, as they need threads; `jbench_threads` has them.
 pub fn obey<C: Contents, W: Write + Drop, E: Write + Drop>(
     rt: &HostRuntime,
     contents: C,
@@ -50,6 +52,7 @@ pub fn obey<C: Contents, W: Write + Drop, E: Write + Drop>(
         Words::Check(path) => check_file(rt, path, out, err),
         Words::Threads(path) => refuse_threads(path, err),
         Words::Bench(words) => refuse_threads(words.paths.log, err),
+        Words::Serve(words) => refuse_threads(words.paths.log, err),
         Words::Format(words) => format_files(rt, contents, words, out, err),
         Words::Dump(words) => dump_file(rt, contents, words, out, err),
         Words::Cat(words) => cat_files(rt, contents, words, out, err),
@@ -62,7 +65,6 @@ pub fn obey<C: Contents, W: Write + Drop, E: Write + Drop>(
     }
 }
 
-/// Prints what a shell is told so that it completes words.
 fn print_completions<W: Write + Drop>(shell: Shell, out: W) -> io::Result<Status>
     ensures other { IfOk result (λ status. status ≢ Fine → status ≡ Refused) }
 {
@@ -71,7 +73,6 @@ fn print_completions<W: Write + Drop>(shell: Shell, out: W) -> io::Result<Status
     Ok(Status::Fine)
 }
 
-/// Prints the page for `man`.
 fn print_manual<W: Write + Drop>(out: W) -> io::Result<Status>
     ensures other { IfOk result (λ status. status ≢ Fine → status ≡ Refused) }
 {
@@ -122,7 +123,6 @@ fn run_opened<W: Write + Drop, E: Write + Drop>(
     }
 }
 
-/// Sweeps the script in a file.
 fn sweep_file<W: Write + Drop, E: Write + Drop>(
     rt: &HostRuntime,
     words: &SweepWords<'_>,
@@ -146,7 +146,6 @@ fn sweep_file<W: Write + Drop, E: Write + Drop>(
     }
 }
 
-/// Says whether the script in a file is good.
 fn check_file<W: Write + Drop, E: Write + Drop>(
     rt: &HostRuntime,
     path: &str,
@@ -163,7 +162,7 @@ fn check_file<W: Write + Drop, E: Write + Drop>(
     }
 }
 
-/// Says that no thread can be had.
+/// Prints that there are no threads.
 fn refuse_threads<E: Write + Drop>(path: &str, err: E) -> io::Result<Status>
     ensures { IfOk result (λ status. status ≡ Refused) }
 {
@@ -171,7 +170,7 @@ fn refuse_threads<E: Write + Drop>(path: &str, err: E) -> io::Result<Status>
     fault::refuse(&mut err, path, &Fault::Refused(JournalError::Memory))
 }
 
-/// Makes an empty log of two files, or beside a home area that is kept. Both files are opened before either is changed.
+/// Makes an empty log in two files, or in one with home kept. Both files are opened before either is changed.
 fn format_files<C: Contents, W: Write + Drop, E: Write + Drop>(
     rt: &HostRuntime,
     contents: C,
@@ -189,7 +188,7 @@ fn format_files<C: Contents, W: Write + Drop, E: Write + Drop>(
     }
 }
 
-/// Makes an empty log of two files, both of which are cleared.
+/// Makes an empty log in two files, and clears both.
 fn format_both<C: Contents, W: Write + Drop, E: Write + Drop>(
     rt: &HostRuntime,
     contents: C,
@@ -206,13 +205,13 @@ fn format_both<C: Contents, W: Write + Drop, E: Write + Drop>(
         Err(unopened) => return unopened.refuse(&mut err),
     };
     say_before(rt.alloc(), words, &files, &mut err)?;
-    match make_device(rt.alloc(), contents, &words.measures, files) {
+    match make_both(rt, contents, words, files) {
         Ok(device) => format_device(words, device, out, err),
         Err(unmade) => unmade.refuse(words.paths, &mut err),
     }
 }
 
-/// Makes an empty log beside a home area that is kept, as it is.
+/// Makes an empty log in a file, and keeps home as it is.
 fn format_log<C: Contents, W: Write + Drop, E: Write + Drop>(
     rt: &HostRuntime,
     contents: C,
@@ -229,13 +228,43 @@ fn format_log<C: Contents, W: Write + Drop, E: Write + Drop>(
         Err(unopened) => return unopened.refuse(&mut err),
     };
     say_before(rt.alloc(), words, files.pair(), &mut err)?;
-    match make_log_device(rt.alloc(), contents, &words.measures, files) {
+    match make_beside_home(rt, contents, words, files) {
         Ok(device) => format_device(words, device, out, err),
         Err(unmade) => unmade.refuse(words.paths, &mut err),
     }
 }
 
-/// Opens the two files of a log that is to be made, which have to be new where the words tell so.
+/// Makes a device over two files, and clears both.
+fn make_both<C: Contents>(
+    rt: &HostRuntime,
+    contents: C,
+    words: &FormatWords<'_>,
+    files: LogPair,
+) -> Result<FileDevice<Cleared<C>>, Unmade>
+    ensures { IfOk result (IsOver files.log.file.file files.home.file.file) }
+{
+    let mut progress = Progress::new(rt);
+    let made = make_device(rt.alloc(), contents, &words.measures, files, &mut progress);
+    progress.ends();
+    made
+}
+
+/// Makes a device over a log's file, which it clears, and a home area's file, which stays.
+fn make_beside_home<C: Contents>(
+    rt: &HostRuntime,
+    contents: C,
+    words: &FormatWords<'_>,
+    files: KeptPair,
+) -> Result<FileDevice<LogCleared<C>>, Unmade>
+    ensures { IfOk result (IsOver files.pair.log.file.file files.pair.home.file.file) }
+{
+    let mut progress = Progress::new(rt);
+    let made = make_log_device(rt.alloc(), contents, &words.measures, files, &mut progress);
+    progress.ends();
+    made
+}
+
+/// Opens a log's two files to make; the words say whether they must be new.
 fn open_both_told<'a>(rt: &HostRuntime, words: &FormatWords<'a>) -> Result<LogPair, Unopened<'a>>
     ensures { IfOk result (λ pair. words.now.has_to_be_new ≡ true → (pair.log.file.is_made ≡ true) × (pair.home.file.is_made ≡ true)) }
 {
@@ -246,7 +275,7 @@ fn open_both_told<'a>(rt: &HostRuntime, words: &FormatWords<'a>) -> Result<LogPa
     }
 }
 
-/// Opens the file of a log that is to be made, which has to be new where the words tell so, and of a home area that is kept.
+/// Opens a log's file to make, which must be new if the words say so, and a home area's file to keep.
 fn open_log_told<'a>(rt: &HostRuntime, words: &FormatWords<'a>) -> Result<KeptPair, Unopened<'a>>
     ensures { IfOk result (λ kept. words.now.has_to_be_new ≡ true → kept.pair.log.file.is_made ≡ true) }
 {
@@ -258,7 +287,7 @@ fn open_log_told<'a>(rt: &HostRuntime, words: &FormatWords<'a>) -> Result<KeptPa
     }
 }
 
-/// Says what the file of a log holds that is about to be made anew, where it holds anything.
+/// Prints what a log's file holds before it is made anew, unless it is empty.
 fn say_before<E: Write>(
     alloc: Global,
     words: &FormatWords<'_>,
@@ -292,7 +321,7 @@ fn format_device<C: Contents, W: Write + Drop, E: Write + Drop>(
     Ok(status)
 }
 
-/// Opens a log in two files, both of which are opened before either is read; or says what that would do.
+/// Opens a log in two files, or says what that would do. Both files are opened before either is read.
 fn recover_files<C: Contents, W: Write + Drop, E: Write + Drop>(
     rt: &HostRuntime,
     contents: C,
@@ -307,7 +336,7 @@ fn recover_files<C: Contents, W: Write + Drop, E: Write + Drop>(
         return plan_files(rt, contents, words, out, err);
     }
     let mut err = err;
-    let files = match open_pair(rt, words.paths) {
+    let files = match open_pair_within(rt, words.paths, words.wait) {
         Ok(files) => files,
         Err(unopened) => return unopened.refuse(&mut err),
     };
@@ -317,7 +346,7 @@ fn recover_files<C: Contents, W: Write + Drop, E: Write + Drop>(
     }
 }
 
-/// Opens the log on this device, or says what that would do.
+/// Opens this device's log, or says what that would do.
 fn recover_device<C: Contents, W: Write + Drop, E: Write + Drop>(
     rt: &HostRuntime,
     words: &RecoverWords<'_>,
@@ -342,7 +371,7 @@ fn recover_device<C: Contents, W: Write + Drop, E: Write + Drop>(
     Ok(status)
 }
 
-/// Says what an opening of a log in two files would do. Both are opened to be read alone.
+/// Says what an opening of a log in two files would do. It opens both only to read.
 fn plan_files<C: Contents, W: Write + Drop, E: Write + Drop>(
     rt: &HostRuntime,
     contents: C,
@@ -354,7 +383,7 @@ fn plan_files<C: Contents, W: Write + Drop, E: Write + Drop>(
     ensures other { IfOk result (λ status. status ≢ Fine → status ≡ Refused) }
 {
     let mut err = err;
-    let files = match open_pair_to_read(rt, words.paths) {
+    let files = match open_pair_to_read_within(rt, words.paths, words.wait) {
         Ok(files) => files,
         Err(unopened) => return unopened.refuse(&mut err),
     };
@@ -364,7 +393,7 @@ fn plan_files<C: Contents, W: Write + Drop, E: Write + Drop>(
     }
 }
 
-/// Does the operations of a script over a log in two files. All three files are opened before any is read.
+/// Applies a script's operations to a log in two files. All three files are opened before any is read.
 fn apply_files<C: Contents, W: Write + Drop, E: Write + Drop>(
     rt: &HostRuntime,
     contents: C,
@@ -376,7 +405,7 @@ fn apply_files<C: Contents, W: Write + Drop, E: Write + Drop>(
     ensures other { IfOk result (λ status. status ≢ Fine → status ≡ Refused) }
 {
     let mut err = err;
-    let files = match open_pair(rt, words.paths) {
+    let files = match open_pair_within(rt, words.paths, words.wait) {
         Ok(files) => files,
         Err(unopened) => return unopened.refuse(&mut err),
     };
@@ -386,7 +415,7 @@ fn apply_files<C: Contents, W: Write + Drop, E: Write + Drop>(
     }
 }
 
-/// Does the operations of the script in this file over a log in these.
+/// Applies the operations of the script in this file to the log in these.
 fn apply_opened<C: Contents, W: Write + Drop, E: Write + Drop>(
     rt: &HostRuntime,
     contents: C,
@@ -410,7 +439,7 @@ fn apply_opened<C: Contents, W: Write + Drop, E: Write + Drop>(
     }
 }
 
-/// How a command ended that answers what is left, where all was done or where it was refused.
+/// The status of a command that gives back what is left, in either case.
 fn status_of_all<T, U>(done: &Result<T, U>) -> Status
     ensures fine { result ≡ Fine ↔ IsOk done.now }
     ensures other { result ≢ Fine → result ≡ Refused }
@@ -448,7 +477,7 @@ fn lone(log: &str) -> LogPaths<'_> {
     LogPaths { log, home: "" }
 }
 
-/// Prints a block as an opening of a log in two files would leave it. Both are opened to be read alone.
+/// Prints a block as an opening of a log in two files would leave it. It opens both only to read.
 fn cat_files<C: Contents, W: Write + Drop, E: Write + Drop>(
     rt: &HostRuntime,
     contents: C,
@@ -460,7 +489,7 @@ fn cat_files<C: Contents, W: Write + Drop, E: Write + Drop>(
     ensures other { IfOk result (λ status. status ≢ Fine → status ≡ Refused) }
 {
     let (mut out, mut err) = (out, err);
-    let files = match open_pair_to_read(rt, words.paths) {
+    let files = match open_pair_to_read_within(rt, words.paths, words.wait) {
         Ok(files) => files,
         Err(unopened) => return unopened.refuse(&mut err),
     };
@@ -474,7 +503,7 @@ fn cat_files<C: Contents, W: Write + Drop, E: Write + Drop>(
     }
 }
 
-/// Gives the empty log in a file block numbers of 64 bits.
+/// Gives the empty log in a file 64-bit block numbers.
 fn upgrade_file<C: Contents, W: Write + Drop, E: Write + Drop>(
     rt: &HostRuntime,
     contents: C,
@@ -496,7 +525,7 @@ fn upgrade_file<C: Contents, W: Write + Drop, E: Write + Drop>(
     }
 }
 
-/// Prints the superblock of the log in a file, and how much of its ring is used.
+/// Prints the superblock of the log in a file, and the use of its ring.
 fn show_file<C: Contents, W: Write + Drop, E: Write + Drop>(
     rt: &HostRuntime,
     contents: C,

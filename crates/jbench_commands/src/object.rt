@@ -1,30 +1,28 @@
-//! The lines that a run prints, as one object of JSON. They are words, numbers and signs that stand for themselves in a text of JSON: no
-//! line has a quote or a backslash.
+//! Prints a run's lines as one JSON object. No line has a quote or a backslash, so each stands for itself in JSON.
 use jbench_words::fault::Fault;
 use std::alloc::Global;
 use std::io;
 use std::io::{BufWriter, ErrorKind, Write};
 use std::str::from_utf8;
 
-/// The key of the object under which a line stands. The lines of a run come in this order.
+/// The key under which a line is printed. A run's lines come in this order.
 #[derive(Clone, Copy, PartialEq, Eq)]
 enum Key {
-    /// What an operation came to.
+    /// An operation's outcome.
     Operations,
     /// Where the device stopped.
     Stopped,
-    /// The dump of what the stop left.
+    /// The dump of the crash image.
     Dump,
     /// What openings found, or where one stopped.
     Openings,
-    /// How a block of home begins.
+    /// The front of a home block.
     Home,
-    /// The verdict.
     Verdict,
 }
 
 impl Key {
-    /// The key of a line behind one of this key.
+    /// The key of a line after one of this key.
     fn behind(self, line: &str) -> Key {
         match self {
             Key::Operations if !line.starts_with("stopped ") => Key::Operations,
@@ -38,11 +36,11 @@ impl Key {
     }
 }
 
-/// Writes the object that has the lines of this text, which a run printed, and a newline.
+/// Writes the object with the lines of this text, which a run printed, and a newline.
 ///
 /// # Errors
 ///
-/// `Fault::Output` where it can't be written; `Fault::Refused` with `Memory`.
+/// `Fault::Output`: it could not be written. `Fault::Refused` with `Memory`.
 pub(crate) fn write_object<W: Write + Drop>(
     alloc: Global,
     text: &[u8],
@@ -57,7 +55,6 @@ pub(crate) fn write_object<W: Write + Drop>(
     Ok(())
 }
 
-/// Writes the object.
 fn write_members<W: Write>(text: &str, out: &mut W) -> io::Result<()> {
     write!(out, "{{\"operations\":")?;
     write_list(text, Key::Operations, out)?;
@@ -79,7 +76,7 @@ fn stop_in(text: &str) -> &str {
     }
 }
 
-/// What stands behind the first word of the line of this key.
+/// The text after the first word of the line of this key.
 fn told_in(text: &str, wanted: Key) -> &str {
     let mut key = Key::Operations;
     for line in text.lines() {
@@ -127,7 +124,7 @@ fn write_line<W: Write>(key: Key, line: &str, out: &mut W) -> io::Result<()> {
     }
 }
 
-/// What stands in a line before and behind this.
+/// The parts of a line before and after this text.
 fn sides_of<'a>(line: &'a str, between: &str) -> (&'a str, &'a str) {
     line.split_once(between).unwrap_or((line, ""))
 }

@@ -1,28 +1,27 @@
-//! The line that shows how far a command is.
+//! The line that shows a command's progress.
 use jbench_words::watch::{Step, Watch};
 use journal_model::Area;
 use std::io::{IsTerminal, Write};
 use std::time::{Duration, Instant};
 
-/// A command that takes less time than this shows no line: milliseconds.
+/// A shorter command shows no line: milliseconds.
 const FIRST: u64 = 1000;
 
-/// The line is written anew no sooner than this: milliseconds.
+/// The least time between two lines: milliseconds.
 const NEXT: u64 = 200;
 
-/// Shows on standard error, where that is a terminal, which block of the log is being read and how many blocks of home are
-/// written, or the stops at which write are being swept, or which call fails, once the command has taken a second. The line goes as
-/// the command ends.
+/// Shows progress on standard error, if that is a terminal, once a command has taken a second: the log block being read and the home blocks
+/// written, the filled part of a file, the stops being swept, or the failing call. The line vanishes when the command ends.
 #[derive(Drop)]
 pub struct Progress<'a> {
     rt: &'a HostRuntime,
-    /// When the command began, where a line may be shown.
+    /// When the command began, if a line may be shown.
     begun: Option<Instant>,
-    /// How long the command has taken when the line is due.
+    /// The command's time at which the next line is due.
     due: Duration,
-    /// The line stands on the terminal.
+    /// Whether the line is on the terminal.
     shown: bool,
-    /// How many blocks of home are written.
+    /// How many home blocks are written.
     written: u64,
 }
 
@@ -43,19 +42,19 @@ impl<'a> Progress<'a> {
         }
     }
 
-    /// How long the command has taken, where the line is due.
+    /// The command's time, if the line is due.
     fn time(&self) -> Option<Duration> {
         let taken = self.begun?.elapsed(self.rt).ok()?;
         if taken < self.due { None } else { Some(taken) }
     }
 
-    /// The line is shown now, when the command has taken this long.
+    /// Notes that the line is shown at this time.
     fn show(&mut self, taken: Duration) {
         self.due = taken.saturating_add(Duration::from_millis(NEXT));
         self.shown = true;
     }
 
-    /// A block is about to be read.
+    /// A block will be read.
     fn reads(&mut self, area: Area, n: u64, blocks: u64) {
         if area == Area::Home {
             return;
@@ -71,14 +70,14 @@ impl<'a> Progress<'a> {
         );
     }
 
-    /// A block is about to be written.
+    /// A block will be written.
     fn writes(&mut self, area: Area) {
         if area == Area::Home {
             self.written = self.written.saturating_add(1);
         }
     }
 
-    /// The stops at a write are about to be swept.
+    /// The stops at a write will be swept.
     fn stops_at(&mut self, write: u64, writes: u64) {
         let Some(taken) = self.time() else {
             return;
@@ -90,7 +89,7 @@ impl<'a> Progress<'a> {
         );
     }
 
-    /// The run of which a call fails is about to be made.
+    /// The run with this failing call will be made.
     fn fails_at(&mut self, call: u64, calls: u64) {
         let Some(taken) = self.time() else {
             return;
@@ -102,17 +101,36 @@ impl<'a> Progress<'a> {
         );
     }
 
-    /// A further second of a bench is over.
+    /// A file of `bytes` bytes will be filled further, from byte `at` on.
+    fn fills(&mut self, area: Area, at: u64, bytes: u64) {
+        let Some(taken) = self.time() else {
+            return;
+        };
+        self.show(taken);
+        let name = match area {
+            Area::Log => "the log",
+            Area::Home => "home",
+        };
+        let _shown = write!(
+            self.rt.stderr(),
+            "\r\x1b[Kjbench: filling {name}, {} of {} MiB are written",
+            at >> 20,
+            bytes >> 20
+        );
+    }
+
+    /// Another second of a bench is over.
     fn second(&mut self, second: u64, transactions: u64) {
         if self.begun.is_some() {
             let _shown = writeln!(
                 self.rt.stderr(),
-                "jbench: {second} s, {transactions} transactions"
+                "jbench: {second} s, {transactions} transactions, {} a second",
+                transactions / second.max(1)
             );
         }
     }
 
-    /// The line goes.
+    /// Removes the line.
     fn hide(&mut self) {
         if self.shown {
             let _gone = write!(self.rt.stderr(), "\r\x1b[K");
@@ -125,6 +143,7 @@ impl Watch for Progress<'_> {
         match step {
             Step::Reads { area, n, blocks } => self.reads(area, n, blocks),
             Step::Writes { area } => self.writes(area),
+            Step::Fills { area, at, bytes } => self.fills(area, at, bytes),
             Step::StopsAt { write, writes } => self.stops_at(write, writes),
             Step::FailsAt { call, calls } => self.fails_at(call, calls),
             Step::Second {

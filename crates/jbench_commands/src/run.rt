@@ -16,12 +16,12 @@ use std::alloc::Global;
 use std::io;
 use std::io::{BufWriter, ErrorKind, Read, Write};
 
-/// Runs a script, and prints its lines, the dump of what the stop left, and the verdict on what openings of it give back; or one object of
-/// JSON that has all of that, where the words tell so. Where it can't go on, one line on `err` says why.
+/// Runs a script, and prints its lines, the crash image's dump and the verdict on its openings; as one JSON object if the words ask for it.
+/// A line on `err` says why it cannot go on.
 ///
 /// # Errors
 ///
-/// The output can't be written.
+/// The output could not be written.
 pub fn run<R: Read + Drop, W: Write + Drop, E: Write + Drop>(
     alloc: Global,
     words: &RunWords<'_>,
@@ -36,12 +36,12 @@ pub fn run<R: Read + Drop, W: Write + Drop, E: Write + Drop>(
     end(words, verdict, err)
 }
 
-/// Runs a script as `run` does, and also leaves an image: what the stop left is written to the device that `image` makes, durably,
-/// before that is opened. Where that device can't be made one line on `err` says so, and nothing else is printed.
+/// Runs a script as `run` does, and writes the crash image durably to the device that `image` makes, before the image is opened. If that
+/// device cannot be made, only a line on `err` is printed.
 ///
 /// # Errors
 ///
-/// The output can't be written.
+/// The output could not be written.
 pub fn run_with_image<R: Read + Drop, M: MakeImage + Drop, W: Write + Drop, E: Write + Drop>(
     alloc: Global,
     words: &RunWords<'_>,
@@ -57,20 +57,19 @@ pub fn run_with_image<R: Read + Drop, M: MakeImage + Drop, W: Write + Drop, E: W
     end(words, verdict, err)
 }
 
-/// Makes the device that takes an image.
+/// Makes the device for an image.
 pub trait MakeImage {
-    /// The device.
     type Device: Device + Drop;
 
     /// Makes a device of these measures.
     ///
     /// # Errors
     ///
-    /// It can't be made.
+    /// It could not be made.
     fn make(self, measures: &Measures) -> io::Result<Self::Device>;
 }
 
-/// How a run ends, and the line that says why it couldn't go on.
+/// A run's status; prints why it could not go on.
 fn end<E: Write + Drop>(
     words: &RunWords<'_>,
     verdict: Result<bool, Fault>,
@@ -87,7 +86,7 @@ fn end<E: Write + Drop>(
     }
 }
 
-/// The file that a fault is of.
+/// The file of a fault.
 fn path_of<'a>(words: &RunWords<'a>, fault: &Fault) -> &'a str {
     match (&words.image, fault) {
         (Some(image), Fault::ImageFile(_)) => image.log,
@@ -95,7 +94,7 @@ fn path_of<'a>(words: &RunWords<'a>, fault: &Fault) -> &'a str {
     }
 }
 
-/// Where a device stops, as words tell.
+/// A device's stop, by the words.
 fn stop_of(words: &StopWords) -> Stop<'_>
     ensures { IsStopTold words.now result }
 {
@@ -105,7 +104,7 @@ fn stop_of(words: &StopWords) -> Stop<'_>
     }
 }
 
-/// Where the run and the opening stop, and which call of the run fails.
+/// The stops of the run and the opening, and the failing call.
 fn stops_of<'a>(words: &'a RunWords<'_>) -> Stops<'a>
     ensures { AreStopsTold words.now result }
 {
@@ -116,7 +115,7 @@ fn stops_of<'a>(words: &'a RunWords<'_>) -> Stops<'a>
     }
 }
 
-/// Runs a script that leaves an image, by way of a buffer. The answer is the verdict.
+/// Runs a script that leaves an image, through a buffer, and returns the verdict.
 fn run_buffered<M: MakeImage + Drop, W: Write + Drop>(
     alloc: Global,
     words: &RunWords<'_>,
@@ -134,12 +133,12 @@ fn run_buffered<M: MakeImage + Drop, W: Write + Drop>(
     Ok(verdict)
 }
 
-/// Makes the device that takes the image, and then runs a script. The answer is the verdict.
+/// Makes the image's device, then runs a script and returns the verdict.
 ///
 /// # Errors
 ///
-/// `Fault::ImageFile`: the device can't be made, or the home area has more than 1,048,576 blocks, each of which would be copied; and
-/// nothing was printed. Else those of a run, and of the copy of its image.
+/// `Fault::ImageFile`: the device cannot be made, or home has more than 1,048,576 blocks to copy; nothing was printed. Otherwise those of a
+/// run, and of the copy of its image.
 pub fn run_on<M: MakeImage + Drop, W: Write>(
     alloc: Global,
     script: &Script,
@@ -163,7 +162,7 @@ pub fn run_on<M: MakeImage + Drop, W: Write>(
     }
 }
 
-/// The home area of a script is too large for an image.
+/// The script's home area is too large for an image.
 fn too_large() -> Fault
     ensures { IsUnmade result }
 {
@@ -173,8 +172,8 @@ fn too_large() -> Fault
     ))
 }
 
-/// Reads a script, and runs it, so that it leaves an image. Where the words tell so, one object has all that is printed, once all is done.
-/// The answer is the verdict.
+/// Reads a script, runs it with an image, and returns the verdict. If the words ask for it, everything is printed at the end, as one
+/// object.
 fn image_verdict_as_told<R: Read + Drop, M: MakeImage + Drop, W: Write + Drop>(
     alloc: Global,
     words: &RunWords<'_>,
@@ -194,7 +193,7 @@ fn image_verdict_as_told<R: Read + Drop, M: MakeImage + Drop, W: Write + Drop>(
     Ok(verdict)
 }
 
-/// Reads a script, and runs it. Where the words tell so, one object has all that is printed, once all is done. The answer is the verdict.
+/// Reads a script, runs it, and returns the verdict. If the words ask for it, everything is printed at the end, as one object.
 fn verdict_as_told<R: Read + Drop, W: Write + Drop>(
     alloc: Global,
     words: &RunWords<'_>,
@@ -213,7 +212,7 @@ fn verdict_as_told<R: Read + Drop, W: Write + Drop>(
     Ok(verdict)
 }
 
-/// Reads a script, and runs it so that it leaves an image. The answer is the verdict.
+/// Reads a script, runs it with an image, and returns the verdict.
 fn image_verdict_of<R: Read + Drop, M: MakeImage + Drop, W: Write + Drop>(
     alloc: Global,
     words: &RunWords<'_>,
@@ -230,7 +229,7 @@ fn image_verdict_of<R: Read + Drop, M: MakeImage + Drop, W: Write + Drop>(
     }
 }
 
-/// Reads a script, and runs it. The answer is the verdict.
+/// Reads a script, runs it, and returns the verdict.
 fn verdict_of<R: Read + Drop, W: Write + Drop>(
     alloc: Global,
     words: &RunWords<'_>,
@@ -246,7 +245,7 @@ fn verdict_of<R: Read + Drop, W: Write + Drop>(
     }
 }
 
-/// Runs a script. The answer is the verdict.
+/// Runs a script through a buffer, and returns the verdict.
 fn run_script<W: Write + Drop>(
     alloc: Global,
     words: &RunWords<'_>,
@@ -263,7 +262,7 @@ fn run_script<W: Write + Drop>(
     Ok(verdict)
 }
 
-/// Runs a script with these stops. The answer is the verdict.
+/// Runs a script with these stops, and returns the verdict.
 fn run_to(
     alloc: Global,
     script: &Script,
@@ -288,7 +287,7 @@ pub(crate) fn read_script<R: Read + Drop>(alloc: Global, reader: R) -> Result<Sc
     Ok(script)
 }
 
-/// Reads the bytes of a script to their end.
+/// Reads a script's bytes to their end.
 pub(crate) fn read_text<R: Read + Drop>(alloc: Global, mut reader: R) -> Result<Vec<u8>, Fault>
     ensures { IfOk result (λ text. IsWhole (R.remaining reader) text.items) }
 {

@@ -14,14 +14,13 @@ use std::alloc::Global;
 use std::io;
 use std::io::{Read, Write};
 
-/// Runs a script with a stop at each of its writes, opens and judges what each stop may have left, by each choice among its last four
-/// writes, and prints what was counted. Where the words say so, each device call of the script then fails in turn: what that leaves is
-/// opened and judged too, and a second line says what was counted. Where they say so, both lines are one object of JSON. What is false is
-/// named on `err`. Where it can't go on, one line on `err` says why.
+/// Runs a script with a stop at each of its writes, opens and judges the crash images, and prints the counts. The images are those of each
+/// choice among the last four writes. If the words ask for it, each device call then fails in turn, and a second line has those counts; or
+/// both are one JSON object. `err` names each false verdict, and says why the sweep cannot go on.
 ///
 /// # Errors
 ///
-/// The output can't be written.
+/// The output could not be written.
 pub fn sweep<R: Read + Drop, P: Watch + Drop, W: Write + Drop, E: Write + Drop>(
     alloc: Global,
     words: &SweepWords<'_>,
@@ -40,7 +39,7 @@ pub fn sweep<R: Read + Drop, P: Watch + Drop, W: Write + Drop, E: Write + Drop>(
     }
 }
 
-/// How a sweep ends that counted so many openings which were not right. Of this project's journal it counts none.
+/// A sweep's status, by its count of openings that were not right; that count is 0 for this journal.
 fn status_of(count: u64) -> Status
     ensures fine { count ≡ 0 → result ≡ Fine }
     ensures wrong { 0 < count → result ≡ VerdictFalse }
@@ -52,8 +51,8 @@ fn status_of(count: u64) -> Status
     }
 }
 
-/// Reads a script, and sweeps it. Where the words tell so, one object says what was counted, once all of it was. The answer is how many
-/// openings were not right.
+/// Reads and sweeps a script, and returns how many openings were not right. If the words ask for it, one object has the counts, printed at
+/// the end.
 fn sweep_as_told<R: Read + Drop, W: Write>(
     alloc: Global,
     words: &SweepWords<'_>,
@@ -76,7 +75,7 @@ fn sweep_as_told<R: Read + Drop, W: Write>(
     Ok(count)
 }
 
-/// Reads a script, and sweeps it. The answer is how many openings were not right.
+/// Reads and sweeps a script, and returns how many openings were not right.
 fn sweep_script<R: Read + Drop, W: Write>(
     alloc: Global,
     words: &SweepWords<'_>,
@@ -97,7 +96,7 @@ fn sweep_script<R: Read + Drop, W: Write>(
     Ok(of_stops.saturating_add(of_failures))
 }
 
-/// Sweeps the stops of a script, and prints what was counted. The answer is how many openings were not right.
+/// Sweeps a script's stops, prints the counts, and returns how many openings were not right.
 fn sweep_stops<W: Write>(
     alloc: Global,
     script: &Script,
@@ -118,7 +117,7 @@ fn sweep_stops<W: Write>(
     }
 }
 
-/// Sweeps the failing calls of a script, and prints what was counted. The answer is how many openings were not right.
+/// Sweeps a script's failing calls, prints the counts, and returns how many openings were not right.
 fn sweep_failures<W: Write>(
     alloc: Global,
     script: &Script,
@@ -139,7 +138,7 @@ fn sweep_failures<W: Write>(
     }
 }
 
-/// Prints what a sweep of stops counted, or how an object with it begins.
+/// Prints the counts of stops, or the front of an object with them.
 fn tell<W: Write>(counts: Counts, json: bool, out: &mut W) -> io::Result<()> {
     let Counts {
         writes,
@@ -161,7 +160,7 @@ fn tell<W: Write>(counts: Counts, json: bool, out: &mut W) -> io::Result<()> {
     }
 }
 
-/// Prints what a sweep of failing calls counted, or that part of an object.
+/// Prints the counts of failing calls, or that part of an object.
 fn tell_failures<W: Write>(counts: FailureCounts, json: bool, out: &mut W) -> io::Result<()> {
     let (calls, wrong) = (counts.calls, counts.not_right.count());
     if json {

@@ -1,11 +1,12 @@
-//! What an apply says of changes that nobody committed.
+//! What an apply says about uncommitted changes, and about waits that found an open transaction.
 use jbench_words::words::ApplyWords;
-use journal_model::{Op, Sealed};
+use journal_model::{Op, Sealed, Tid};
 use journal_script::Operation;
+use script_client::Performed;
 use std::io;
 use std::io::Write;
 
-/// How many operations change a block by a handle: writes and revokes.
+/// How many operations change a block through a handle: writes and revokes.
 pub(crate) fn changes_in(operations: &[Operation]) -> u64 {
     let mut changes: u64 = 0;
     for operation in operations {
@@ -29,12 +30,12 @@ fn changes_sealed(sealed: &[Sealed]) -> u64 {
     changes
 }
 
-/// Says how many changes of a script no commit took, where all of its operations were done: these are gone. With `--keep-going` some may
-/// have been refused, so that nothing is known of the others.
+/// Says how many of a script's changes no commit took, after all operations were done; these are lost. With `--keep-going` it says nothing,
+/// as some may have been refused.
 ///
 /// # Errors
 ///
-/// The line can't be written.
+/// The line could not be written.
 pub(crate) fn say_uncommitted(
     words: &ApplyWords<'_>,
     changes: u64,
@@ -49,4 +50,28 @@ pub(crate) fn say_uncommitted(
         err,
         "jbench: {lost} of {changes} changes were not committed, and are not there: after them their handle has to stop, and [\"commit\"] to follow"
     )
+}
+
+/// Says which transaction a wait found `open`, if no later line showed it committed. A wait commits nothing.
+///
+/// # Errors
+///
+/// The line could not be written.
+pub(crate) fn say_open_wait<D>(left: &Performed<D>, err: &mut impl Write) -> io::Result<()> {
+    match left.open_wait {
+        Some(tid) if !is_shown(tid, left.acknowledged) => writeln!(
+            err,
+            "jbench: a wait for transaction {} came to open, and no line after it showed that committed: [\"commit\"] has to come before it",
+            tid.0
+        ),
+        _ => Ok(()),
+    }
+}
+
+/// Whether a transaction is at most the greatest that was shown committed.
+fn is_shown(tid: Tid, acknowledged: Option<Tid>) -> bool {
+    match acknowledged {
+        Some(greatest) => tid <= greatest,
+        None => false,
+    }
 }

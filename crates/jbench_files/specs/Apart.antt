@@ -1,4 +1,4 @@
--- Files that are two. This project's own.
+-- Distinct files. This project's own.
 use Rattle.std.specs.Prelude.{◌≡◌}
 use Rattle.jbench_files.specs.declared.regular.RegularFile.{RegularFile}
 

@@ -1,4 +1,4 @@
-//! Devices over the files of a log.
+//! Makes devices over a log's files.
 ghost use Rattle.std.specs.Prelude.{◌≡◌, ◌*◌, ◌-◌, ◌^◌, min, IfOk, None};
 ghost use Rattle.journal_model.specs.declared.number.Area.TheVariants.{Home, Log};
 ghost use Rattle.log_format.specs.Size.{IsBlockSize};
@@ -9,9 +9,10 @@ use crate::locked::{take, take_shared};
 use crate::pairs::{HomeFile, KeptPair, LockedPair, LogFile, LogPair, ReadPair};
 use crate::ready::{ReadyLog, number_at};
 use crate::regular::{open_there, open_to_read};
-use crate::room::{Room, clear, give_back, reserve};
+use crate::room::{AreaFile, Room, clear, give_back, reserve};
 use file_device::{Contents, FileDevice, UnknownContents, WriteLock};
 use jbench_words::fault::{Status, refuse_file};
+use jbench_words::watch::Watch;
 use jbench_words::words::LogPaths;
 use journal_model::Area;
 use journal_script::{Measures, is_block_size};
@@ -20,7 +21,7 @@ use std::fs::{File, Files};
 use std::io;
 use std::io::{ErrorKind, Write};
 
-/// What is supposed of files that were cleared: that they hold zeros, durably. `make_device` alone says so of its two files.
+/// The assumption that files hold zeros, durably; only `make_device` makes it, of files that it cleared.
 #[derive(Drop)]
 pub struct Cleared<C: Contents>(C);
 
@@ -30,8 +31,7 @@ impl<C: Contents> Contents for Cleared<C> {
     ghost contents = { cleared C.contents };
 }
 
-/// What is supposed of a log that was cleared, and of the home area beside it: that the log holds zeros, durably, and the home area what
-/// it held. `make_log_device` alone says so of its two files.
+/// The assumption that a log holds zeros, durably, and home its old content; only `make_log_device` makes it, of a log that it cleared.
 #[derive(Drop)]
 pub struct LogCleared<C: Contents>(C);
 
@@ -41,22 +41,21 @@ impl<C: Contents> Contents for LogCleared<C> {
     ghost contents = { log_cleared C.contents };
 }
 
-/// Where the superblock says how many bytes a block has.
+/// Where the superblock has s_blocksize.
 const BLOCK_SIZE_PLACE: u64 = 0x0c;
 
-/// A file of a log that can't be made as long as is wanted.
+/// A file of a log that cannot get its length.
 #[derive(Drop)]
 pub struct Unmade {
-    /// The area whose file it is.
+    /// The file's area.
     pub area: Area,
-    /// Why it can't.
     pub error: io::Error,
-    /// No file has lost what it held.
+    /// Whether all files still hold their old content.
     pub is_kept: bool,
 }
 
 impl Unmade {
-    /// Its path.
+    /// The file's path.
     pub fn path<'a>(&self, paths: LogPaths<'a>) -> &'a str
         ensures log { self.now.area ≡ Log → result ≡ paths.entry.log }
         ensures home { self.now.area ≡ Home → result ≡ paths.entry.home }
@@ -67,7 +66,7 @@ impl Unmade {
         }
     }
 
-    /// The file of this area, and what the files held may be lost.
+    /// A refused file, after old content may have been lost.
     fn of(area: Area, error: io::Error) -> Unmade {
         Unmade {
             area,
@@ -76,7 +75,7 @@ impl Unmade {
         }
     }
 
-    /// The file of this area, and all files hold what they held.
+    /// A refused file, while all files hold their old content.
     fn kept(area: Area, error: io::Error) -> Unmade {
         Unmade {
             area,
@@ -85,11 +84,11 @@ impl Unmade {
         }
     }
 
-    /// Says on `err` that the file can't be made so long, why, and what became of what the files held. The command is then refused.
+    /// Prints why the file cannot get its length, and whether old content is lost; answers `Refused`.
     ///
     /// # Errors
     ///
-    /// The lines can't be written.
+    /// The lines could not be written.
     pub fn refuse(self, paths: LogPaths<'_>, err: &mut impl Write) -> io::Result<Status>
         ensures { IfOk result (λ status. status ≡ Refused) }
     {
@@ -109,12 +108,12 @@ impl Unmade {
     }
 }
 
-/// Opens a log to be read, without a home area, and takes the lock of a reader. A block has as many bytes as its superblock says, where
-/// a block may have so many, else 1024.
+/// Opens a log to read, without a home area, and takes its read lock. The superblock gives the block size; if it is no valid one, 1024
+/// bytes.
 ///
 /// # Errors
 ///
-/// There is no regular file of this path, it can't be read, another program writes it, or memory ran out.
+/// The path names no regular file, it cannot be read, another program writes it, or memory ran out.
 pub fn open_log<C: Contents, R: Files<File = File>>(
     alloc: Global,
     contents: C,
@@ -130,12 +129,12 @@ pub fn open_log<C: Contents, R: Files<File = File>>(
     )
 }
 
-/// Opens a log to be read and written, without a home area, and takes the lock of a writer. A block has as many bytes as for `open_log`.
-/// Its superblock is written once more first, just as it reads, and synced, as `device_of` does it with what an opening relies on.
+/// Opens a log to read and write, without a home area, and takes its write lock. The block size is that of `open_log`. The superblock is
+/// rewritten as it reads, and synced.
 ///
 /// # Errors
 ///
-/// There is no regular file of this path, it can't be read, written or synced, another program has it, or memory ran out.
+/// The path names no regular file, it cannot be read, written or synced, another program has it, or memory ran out.
 pub fn open_log_to_write<C: Contents, R: Files<File = File>>(
     alloc: Global,
     contents: C,
@@ -148,7 +147,7 @@ pub fn open_log_to_write<C: Contents, R: Files<File = File>>(
     log_in(alloc, contents, log.into_file())
 }
 
-/// The log that a file holds.
+/// A device over a log's file alone.
 fn log_in<C: Contents>(alloc: Global, contents: C, file: File) -> io::Result<FileDevice<C>>
     ensures { IfOk result (λ device. (device.log_file ≡ file) × (device.home_file ≡ None)) }
 {
@@ -156,13 +155,12 @@ fn log_in<C: Contents>(alloc: Global, contents: C, file: File) -> io::Result<Fil
     Ok(FileDevice::new(alloc, contents, size, file, None)?)
 }
 
-/// A device over the files of a log and of its home area, of which `contents` says what is supposed. A block has as many bytes
-/// as the log's superblock says, where a block may have so many, else 1024. What an opening relies on in the log is written once more
-/// first, just as it reads, and synced: a sync that failed may have left it in the system's memory alone.
+/// A device over a log's two files, whose assumed contents are `contents`. The block size is that of `open_log`. What an opening relies on
+/// in the log is rewritten as it reads, and synced: after a failed sync it may be in the system's memory alone.
 ///
 /// # Errors
 ///
-/// The log can't be read, written or synced, nothing can be told of a file, or memory ran out.
+/// The log cannot be read, written or synced, the system has no data on a file, or memory ran out.
 pub fn device_of<C: Contents>(
     alloc: Global,
     contents: C,
@@ -174,11 +172,11 @@ pub fn device_of<C: Contents>(
     device_over(alloc, contents, ReadyLog::settled(log)?, home)
 }
 
-/// A device over the files of a log and of its home area that are to be read. Nothing is written.
+/// A device over a log's two files, to read. Nothing is written.
 ///
 /// # Errors
 ///
-/// The log can't be read, nothing can be told of a file, or memory ran out.
+/// The log cannot be read, the system has no data on a file, or memory ran out.
 pub fn device_to_read<C: Contents>(
     alloc: Global,
     contents: C,
@@ -190,7 +188,7 @@ pub fn device_to_read<C: Contents>(
     device_over(alloc, contents, ReadyLog::to_read(log), home)
 }
 
-/// A device over the files of a log and of its home area, in blocks as the log's superblock tells.
+/// A device over a log's two files, with the superblock's block size.
 fn device_over<C: Contents>(
     alloc: Global,
     contents: C,
@@ -204,25 +202,26 @@ fn device_over<C: Contents>(
     Ok(FileDevice::new(alloc, contents, size, log, Some(home))?)
 }
 
-/// Makes the files as long as these measures say, all zeros, durably, and a device of them. Each block of both is written, so
-/// that the disk has room for it; that room is taken before anything is lost that the files hold.
+/// Makes both files as long as the measures say, all zeros and durable, and a device over them. Disk space is reserved before old content
+/// is lost. `watch` learns what is written.
 ///
 /// # Errors
 ///
-/// A block can't have so many bytes, or the disk has no room, and both files are as they were; or a file can't be overwritten or synced,
-/// or memory ran out, and what both held may be lost.
+/// The block size is not valid, or the disk has no room: both files are as before. A file cannot be overwritten or synced, or memory ran
+/// out: the old content of both may be lost.
 pub fn make_device<C: Contents>(
     alloc: Global,
     contents: C,
     measures: &Measures,
     files: LogPair,
+    watch: &mut impl Watch,
 ) -> Result<FileDevice<Cleared<C>>, Unmade>
     ensures { IfOk result (IsOver files.log.file.file files.home.file.file) }
 {
     let (log, home) = files.into_files();
     let size = tested_size(measures)?;
-    let log_room = log_room(alloc, measures, &log)?;
-    let home_room = match reserve(alloc, home.file(), home_bytes(measures)) {
+    let log_room = log_room(alloc, measures, &log, watch)?;
+    let home_room = match reserve(alloc, of_home(&home), home_bytes(measures), watch) {
         Ok(room) => room,
         Err(error) => {
             return Err(match give_back(log.file(), log_room) {
@@ -231,40 +230,41 @@ pub fn make_device<C: Contents>(
             });
         }
     };
-    let log = clear_log(alloc, log, log_room)?;
-    if let Err(error) = clear(alloc, home.file(), home_room) {
+    let log = clear_log(alloc, log, log_room, watch)?;
+    if let Err(error) = clear(alloc, of_home(&home), home_room, watch) {
         return Err(Unmade::of(Area::Home, error));
     }
     device_in(alloc, Cleared(contents), size, log, home)
 }
 
-/// Makes the file of a log as long as these measures say, all zeros, durably, and a device of it and of the home area's file, which
-/// stays as it is. Room on the disk is taken before anything is lost that the log's file holds.
+/// Makes a log's file as long as the measures say, all zeros and durable, and a device over it and the home area's file, which stays. Disk
+/// space is reserved before old content is lost. `watch` learns what is written.
 ///
 /// # Errors
 ///
-/// A block can't have so many bytes, or the disk has no room, and the log is as it was; or it can't be overwritten or synced, nothing
-/// can be told of the home area's file, or memory ran out, and what the log held may be lost.
+/// The block size is not valid, or the disk has no room: the log is as before. The log cannot be overwritten or synced, the system has no
+/// data on the home area's file, or memory ran out: the log's old content may be lost.
 pub fn make_log_device<C: Contents>(
     alloc: Global,
     contents: C,
     measures: &Measures,
     files: KeptPair,
+    watch: &mut impl Watch,
 ) -> Result<FileDevice<LogCleared<C>>, Unmade>
     ensures { IfOk result (IsOver files.pair.log.file.file files.pair.home.file.file) }
 {
     let (log, home) = files.into_pair().into_files();
     let size = tested_size(measures)?;
-    let room = log_room(alloc, measures, &log)?;
-    let log = clear_log(alloc, log, room)?;
+    let room = log_room(alloc, measures, &log, watch)?;
+    let log = clear_log(alloc, log, room, watch)?;
     device_in(alloc, LogCleared(contents), size, log, home)
 }
 
-/// A device over the file of a log that is about to be made anew, to be read: without a home area, in blocks as its superblock tells.
+/// A device to read a log's file before it is made anew: without a home area, with the superblock's block size.
 ///
 /// # Errors
 ///
-/// The log can't be read, nothing can be told of it, or memory ran out.
+/// The log cannot be read, the system has no data on it, or memory ran out.
 pub fn device_before<L: Drop>(
     alloc: Global,
     files: &LockedPair<L>,
@@ -272,12 +272,12 @@ pub fn device_before<L: Drop>(
     log_in(alloc, UnknownContents, files.log_again()?)
 }
 
-/// Says on `err` which call on a file of this device failed last, where one did: on which file, from which byte on, and what the system
-/// answered. `paths` names the files.
+/// Prints which call on this device's files failed last, if any: the file, the first byte, and the system's answer. `paths` names the
+/// files.
 ///
 /// # Errors
 ///
-/// The line can't be written.
+/// The line could not be written.
 pub fn say_failure<C: Contents>(
     device: &FileDevice<C>,
     paths: LogPaths<'_>,
@@ -293,7 +293,7 @@ pub fn say_failure<C: Contents>(
     writeln!(err, "  {path}: {failure}")
 }
 
-/// How many bytes the home area of these measures has, or 2^64 - 1 where it has more.
+/// The home area's bytes, at most 2^64 - 1.
 pub fn home_bytes(measures: &Measures) -> u64
     ensures { result ≡ min (measures.now.home_blocks * measures.now.block_size) (2 ^ 64 - 1) }
 {
@@ -302,7 +302,7 @@ pub fn home_bytes(measures: &Measures) -> u64
         .saturating_mul(measures.block_size as u64)
 }
 
-/// How many bytes a block of these measures has, where a block may have so many.
+/// The measures' block size, if it is valid.
 fn tested_size(measures: &Measures) -> Result<usize, Unmade>
     ensures { IfOk result IsBlockSize }
 {
@@ -314,26 +314,47 @@ fn tested_size(measures: &Measures) -> Result<usize, Unmade>
     }
 }
 
-/// Takes room on the disk for a log of these measures.
-fn log_room(alloc: Global, measures: &Measures, log: &LogFile<WriteLock>) -> Result<Room, Unmade> {
+fn of_home(home: &HomeFile) -> AreaFile<'_> {
+    AreaFile {
+        area: Area::Home,
+        file: home.file(),
+    }
+}
+
+/// Reserves disk space for a log of these measures.
+fn log_room(
+    alloc: Global,
+    measures: &Measures,
+    log: &LogFile<WriteLock>,
+    watch: &mut impl Watch,
+) -> Result<Room, Unmade> {
     let bytes = u64::from(measures.log_blocks).saturating_mul(measures.block_size as u64);
-    match reserve(alloc, log.file(), bytes) {
+    let of = AreaFile {
+        area: Area::Log,
+        file: log.file(),
+    };
+    match reserve(alloc, of, bytes, watch) {
         Ok(room) => Ok(room),
         Err(error) => Err(Unmade::kept(Area::Log, error)),
     }
 }
 
-/// Makes the file of a log all zeros, durably, as long as there is room for it.
-fn clear_log(alloc: Global, log: LogFile<WriteLock>, room: Room) -> Result<ReadyLog, Unmade>
+/// Overwrites a log's file with zeros, up to the reserved length, and makes them durable.
+fn clear_log(
+    alloc: Global,
+    log: LogFile<WriteLock>,
+    room: Room,
+    watch: &mut impl Watch,
+) -> Result<ReadyLog, Unmade>
     ensures { IfOk result (λ ready. ready.file ≡ log.file) }
 {
-    match ReadyLog::cleared(alloc, log, room) {
+    match ReadyLog::cleared(alloc, log, room, watch) {
         Ok(log) => Ok(log),
         Err(error) => Err(Unmade::of(Area::Log, error)),
     }
 }
 
-/// A device over these files, in blocks of so many bytes.
+/// A device over these files, with blocks of `size` bytes.
 fn device_in<C: Contents>(
     alloc: Global,
     contents: C,
@@ -351,7 +372,7 @@ fn device_in<C: Contents>(
     }
 }
 
-/// How many bytes a block of the log in this file has.
+/// The block size of this file's log.
 fn block_size_of(log: &File) -> io::Result<usize>
     ensures { IfOk result IsBlockSize }
 {

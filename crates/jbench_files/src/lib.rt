@@ -1,8 +1,8 @@
-//! The files of a log that a command of `jbench` is told: how they are opened and locked, and devices over them.
+//! Opens and locks the files of a log for the commands of `jbench`, and makes devices over them.
 //!
-//! `regular` opens regular files and says which one a file is, `locked` takes the lock of a file, `pairs` opens the two files of a log,
-//! `ready` makes the log's ready for a device, `room` takes room on the disk, and `devices` makes devices of them. No file's bytes are
-//! read or written before it is locked. `text` is that of a script, which is not locked.
+//! `regular` opens and identifies regular files, `locked` locks a file, and `pairs` opens a log's two files. `ready` prepares a log for a
+//! device, `room` reserves disk space, and `devices` makes devices. No byte of a log's files is read or written before the lock; `waiting`
+//! waits for locks. `text` reads a script, which is not locked.
 #![tactic(auto)]
 
 mod devices;
@@ -12,6 +12,7 @@ mod ready;
 mod regular;
 mod room;
 mod text;
+mod waiting;
 
 pub use devices::{
     Cleared, LogCleared, Unmade, device_before, device_of, device_to_read, home_bytes, make_device,
@@ -24,3 +25,4 @@ pub use pairs::{
 };
 pub use regular::{Identity, RegularFile, open_text, open_to_read};
 pub use text::Text;
+pub use waiting::{open_pair_to_read_within, open_pair_within};

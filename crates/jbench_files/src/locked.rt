@@ -1,4 +1,4 @@
-//! Open files with their lock.
+//! Opens files with their lock.
 ghost use Rattle.std.specs.Prelude.{◌≡◌, IfOk};
 
 use crate::regular::{Identity, RegularFile};
@@ -7,20 +7,19 @@ use std::fs::{File, Files};
 use std::io::ErrorKind;
 use std::{fs, io};
 
-/// A regular file with its lock. While one that is to be written is there, which has a `WriteLock`, no other program gets a lock of it,
-/// and while one that is to be read is there, which has a `ReadLock`, none gets that of a writer.
+/// A regular file with its lock. A `WriteLock` excludes all other locks, a `ReadLock` those of writers.
 #[derive(Drop)]
 pub struct LockedFile<L> {
     file: RegularFile,
     lock: L,
 }
 
-/// Takes the lock of a file that was opened by this path to be written.
+/// Takes the write lock of a file that was opened by this path.
 ///
 /// # Errors
 ///
-/// `WouldBlock` where another program has a lock of it; `NotFound` where the path is another file's by now, since another program
-/// renamed this one or took it away; else what the system answers.
+/// `WouldBlock`: another program has a lock. `NotFound`: another program renamed or removed the file, so the path names another one.
+/// Otherwise the system's answer.
 pub(crate) fn take<R: Files<File = File>>(
     rt: &R,
     path: &str,
@@ -33,11 +32,11 @@ pub(crate) fn take<R: Files<File = File>>(
     Ok(LockedFile { file, lock })
 }
 
-/// Fails where a path is not this file's.
+/// Fails if the path no longer names this file.
 ///
 /// # Errors
 ///
-/// `NotFound`: it is another file's by now; else what the system answers.
+/// `NotFound`: it names another file. Otherwise the system's answer.
 pub(crate) fn require_name<R: Files<File = File>>(
     rt: &R,
     path: &str,
@@ -50,11 +49,11 @@ pub(crate) fn require_name<R: Files<File = File>>(
     }
 }
 
-/// Takes the lock of a reader of a file that was opened to be read.
+/// Takes the read lock of an open file.
 ///
 /// # Errors
 ///
-/// `WouldBlock` where another program has the lock of a writer; else what the system answers.
+/// `WouldBlock`: another program has the write lock. Otherwise the system's answer.
 pub(crate) fn take_shared(file: RegularFile) -> io::Result<LockedFile<ReadLock>>
     ensures { IfOk result (λ locked. locked.file ≡ file) }
 {
@@ -63,14 +62,13 @@ pub(crate) fn take_shared(file: RegularFile) -> io::Result<LockedFile<ReadLock>>
 }
 
 impl<L: Drop> LockedFile<L> {
-    /// The file.
     pub fn file(&self) -> &RegularFile
         ensures { result.now ≡ self.now.file }
     {
         &self.file
     }
 
-    /// The file, which has its lock until it is let go.
+    /// The file, locked until it is dropped.
     pub fn into_file(self) -> File
         ensures { result ≡ self.file.file }
     {

@@ -1,4 +1,4 @@
-//! The two files of a log, each of which is opened and locked before either is read.
+//! Opens a log's two files, and locks each before it reads either.
 ghost use Rattle.std.specs.Prelude.{◌≡◌, true, IfOk, IfSome};
 ghost use Rattle.jbench_files.specs.Apart.{AreApart};
 ghost use Rattle.jbench_words.specs.declared.fault.Status.TheVariants.{Refused};
@@ -16,7 +16,7 @@ use std::io;
 use std::io::{ErrorKind, Write};
 use std::marker::PhantomData;
 
-/// The two files of a log, which are not one, each with its lock.
+/// A log's two distinct files, each with its lock.
 #[derive(Drop)]
 pub struct LockedPair<L> {
     log: LockedFile<L>,
@@ -24,27 +24,25 @@ pub struct LockedPair<L> {
     pub ghost are_two: { AreApart log.file home.file },
 }
 
-/// The two files of a log that is to be written.
+/// A log's two files, to write.
 pub type LogPair = LockedPair<WriteLock>;
 
-/// The two files of a log that is to be read.
+/// A log's two files, to read.
 pub type ReadPair = LockedPair<ReadLock>;
 
-/// The two files of a log that is to be made beside a home area that stays as it is. `open_or_make_log` alone makes one.
+/// A log's two files, of which the log is made and home stays; only `open_or_make_log` and `make_log` open such a pair.
 #[derive(Drop)]
 pub struct KeptPair {
     pair: LogPair,
 }
 
 impl KeptPair {
-    /// The two files.
     pub fn pair(&self) -> &LogPair
         ensures { result.now ≡ self.now.pair }
     {
         &self.pair
     }
 
-    /// The two files.
     pub(crate) fn into_pair(self) -> LogPair
         ensures { result ≡ self.pair }
     {
@@ -52,21 +50,20 @@ impl KeptPair {
     }
 }
 
-/// The file of a log, which a pair alone hands out. It has its lock until it is let go.
+/// A log's file, from a pair; locked until it is dropped.
 #[derive(Drop)]
 pub struct LogFile<L> {
     file: File,
     lock: PhantomData<L>,
 }
 
-/// The file of a home area, which a pair alone hands out. It has its lock until it is let go.
+/// A home area's file, from a pair; locked until it is dropped.
 #[derive(Drop)]
 pub struct HomeFile {
     file: File,
 }
 
 impl<L: Drop> LockedPair<L> {
-    /// The two files of a log.
     fn new(log: LockedFile<L>, home: LockedFile<L>) -> LockedPair<L>
         requires { AreApart log.file home.file }
         ensures log { result.log ≡ log }
@@ -75,21 +72,21 @@ impl<L: Drop> LockedPair<L> {
         LockedPair { log, home }
     }
 
-    /// Whether the file of the log has no byte.
+    /// Whether the log's file is empty.
     ///
     /// # Errors
     ///
-    /// The system can tell nothing of it.
+    /// The system has no data on it.
     pub fn is_log_empty(&self) -> io::Result<bool> {
         Ok(self.log.file().file.metadata()?.len() == 0)
     }
 
-    /// The file of the log once more, with the same lock.
+    /// The log's file once more, with the same lock.
     pub(crate) fn log_again(&self) -> io::Result<File> {
         self.log.file().file.try_clone()
     }
 
-    /// The file of the log and that of the home area, which have their locks until they are let go.
+    /// The files of the log and of home, locked until they are dropped.
     pub fn into_files(self) -> (LogFile<L>, HomeFile)
         ensures log { result.0.file ≡ self.log.file.file }
         ensures home { result.1.file ≡ self.home.file.file }
@@ -107,14 +104,12 @@ impl<L: Drop> LockedPair<L> {
 }
 
 impl<L: Drop> LogFile<L> {
-    /// The file.
     pub(crate) fn file(&self) -> &File
         ensures { result.now ≡ self.now.file }
     {
         &self.file
     }
 
-    /// The file.
     pub fn into_file(self) -> File
         ensures { result ≡ self.file }
     {
@@ -124,14 +119,12 @@ impl<L: Drop> LogFile<L> {
 }
 
 impl HomeFile {
-    /// The file.
     pub fn file(&self) -> &File
         ensures { result.now ≡ self.now.file }
     {
         &self.file
     }
 
-    /// The file.
     pub fn into_file(self) -> File
         ensures { result ≡ self.file }
     {
@@ -139,19 +132,17 @@ impl HomeFile {
     }
 }
 
-/// A file that can't be opened.
+/// A file that cannot be opened.
 #[derive(Drop)]
 pub struct Unopened<'a> {
-    /// Its path.
     pub path: &'a str,
-    /// Why it can't.
     pub error: io::Error,
-    /// The paths of files that were made before that, the log's and the home area's. They stay, with no bytes.
+    /// The paths of the log and the home area, if they were made before that. These files stay, empty.
     pub made: [Option<&'a str>; 2],
 }
 
 impl<'a> Unopened<'a> {
-    /// The file of this path, and nothing was made.
+    /// The refusal of this path; nothing was made.
     fn new(path: &'a str, error: io::Error) -> Unopened<'a> {
         Unopened {
             path,
@@ -160,7 +151,7 @@ impl<'a> Unopened<'a> {
         }
     }
 
-    /// The file of the log at this path.
+    /// The refusal of the log at this path.
     fn of_log(path: &'a str, refused: Unclaimed<'a>) -> Unopened<'a> {
         let Unclaimed { error, made } = refused;
         Unopened {
@@ -170,7 +161,7 @@ impl<'a> Unopened<'a> {
         }
     }
 
-    /// The file of the home area at this path, beside the file of its log.
+    /// The refusal of the home area at this path, after its log was opened.
     fn of_home<F: Drop>(path: &'a str, refused: Unclaimed<'a>, log: Opened<'a, F>) -> Unopened<'a> {
         let Unclaimed { error, made } = refused;
         Unopened {
@@ -180,11 +171,16 @@ impl<'a> Unopened<'a> {
         }
     }
 
-    /// Says on `err` that the file can't be opened, why, and which files were made and stay. The command is then refused.
+    /// Whether another program has its lock.
+    pub(crate) fn is_held(&self) -> bool {
+        self.error.kind() == ErrorKind::WouldBlock
+    }
+
+    /// Prints why the file cannot be opened, and which files were made and stay; answers `Refused`.
     ///
     /// # Errors
     ///
-    /// The lines can't be written.
+    /// The lines could not be written.
     pub fn refuse(self, err: &mut impl Write) -> io::Result<Status>
         ensures { IfOk result (λ status. status ≡ Refused) }
     {
@@ -195,7 +191,7 @@ impl<'a> Unopened<'a> {
     }
 }
 
-/// Says which files were made and stay.
+/// Prints which files were made and stay.
 fn say_made(err: &mut impl Write, made: [Option<&str>; 2]) -> io::Result<()> {
     for path in made {
         if let Some(path) = path {
@@ -205,14 +201,14 @@ fn say_made(err: &mut impl Write, made: [Option<&str>; 2]) -> io::Result<()> {
     Ok(())
 }
 
-/// A file that was opened, and that it was made where it was not there before.
+/// An opened file; `made` is set if it was made.
 struct Opened<'a, F> {
     file: F,
     made: Option<Made<'a>>,
 }
 
 impl<'a, F: Drop> Opened<'a, F> {
-    /// Lets the file go. The answer is its path where it was made: it stays, whoever has it by then.
+    /// Drops the file. Returns its path if it was made: it stays.
     fn stays(self) -> Option<&'a str> {
         let Opened { file: _, made } = self;
         path_of(made)
@@ -231,7 +227,7 @@ impl<'a, F: Drop> Opened<'a, F> {
     }
 }
 
-/// The path of a file that was made and stays.
+/// The path of a made file, which stays.
 fn path_of(made: Option<Made<'_>>) -> Option<&str> {
     match made {
         Some(made) => Some(made.stays()),
@@ -239,11 +235,11 @@ fn path_of(made: Option<Made<'_>>) -> Option<&str> {
     }
 }
 
-/// Opens a script to be read, as `open_text` does, which is neither file of this log.
+/// Opens a script as `open_text` does; it must be neither file of this log.
 ///
 /// # Errors
 ///
-/// There is no file of a script of this path, it can't be read, or it is a file of the log.
+/// The path names no script's file, it cannot be read, or it is a file of the log.
 pub fn open_script<R: Files<File = File>>(
     rt: &R,
     path: &str,
@@ -255,12 +251,12 @@ pub fn open_script<R: Files<File = File>>(
     script.other_than(files.home.file())
 }
 
-/// Opens the two files of a log, which are two, to be read and written, and takes the lock of each at its opening. What they hold stays.
+/// Opens a log's two distinct files to read and write, and locks each as it opens it. Their content stays.
 ///
 /// # Errors
 ///
-/// The first of the two that is no regular file, that can't be read and written, that is the other, or that another program has; `NotFound`
-/// where the log's path is another file's by the time that the home area's is opened.
+/// The first file that is no regular one, cannot be read and written, is the same as the other, or is locked by another program.
+/// `NotFound`: the log's path names another file by the time home is opened.
 pub fn open_pair<'a, R: Files<File = File>>(
     rt: &R,
     paths: LogPaths<'a>,
@@ -273,19 +269,19 @@ pub fn open_pair<'a, R: Files<File = File>>(
         Ok(home) => home,
         Err(error) => return Err(Unopened::new(paths.home, error)),
     };
-    // Where both paths are one file's, and its name was given to another file between the two openings, the second is that one.
+    // One file at both paths, renamed between the openings, would pass for two.
     match require_name(rt, paths.log, log.file()) {
         Ok(()) => Ok(LockedPair::new(log, home)),
         Err(error) => Err(Unopened::new(paths.log, error)),
     }
 }
 
-/// Opens a file that is there to be read and written, and takes its lock.
+/// Opens an existing file to read and write, and locks it.
 fn open_locked<R: Files<File = File>>(rt: &R, path: &str) -> io::Result<LockedFile<WriteLock>> {
     take(rt, path, open_there(rt, path)?)
 }
 
-/// Opens the file of a home area that is there, which is not this log's, and takes its lock.
+/// Opens and locks an existing home area's file, which must not be this log's.
 fn open_home_of<R: Files<File = File>>(
     rt: &R,
     path: &str,
@@ -297,11 +293,11 @@ fn open_home_of<R: Files<File = File>>(
     take(rt, path, home)
 }
 
-/// Opens the two files of a log, which are two, to be read, and takes the lock of a reader of each at its opening.
+/// Opens a log's two distinct files to read, and takes each one's read lock as it opens it.
 ///
 /// # Errors
 ///
-/// The first of the two that is no regular file, that can't be read, that is the other, or that another program writes.
+/// The first file that is no regular one, cannot be read, is the same as the other, or is written by another program.
 pub fn open_pair_to_read<'a, R: Files<File = File>>(
     rt: &R,
     paths: LogPaths<'a>,
@@ -316,12 +312,12 @@ pub fn open_pair_to_read<'a, R: Files<File = File>>(
     }
 }
 
-/// Opens a file that is there to be read, and takes the lock of a reader.
+/// Opens an existing file to read, and takes its read lock.
 fn open_shared<R: Files<File = File>>(rt: &R, path: &str) -> io::Result<LockedFile<ReadLock>> {
     take_shared(open_to_read(rt, path)?)
 }
 
-/// Opens the file of a home area that is there to be read, which is not this log's, and takes the lock of a reader.
+/// Opens an existing home area's file to read, which must not be this log's, and takes its read lock.
 fn open_shared_home<R: Files<File = File>>(
     rt: &R,
     path: &str,
@@ -332,14 +328,14 @@ fn open_shared_home<R: Files<File = File>>(
     take_shared(open_to_read(rt, path)?.other_than(log)?)
 }
 
-/// Opens the two files of a log to be read and written, makes each where there is none, and takes the lock of each. They are two files,
-/// and neither is this script's. What they hold stays. Their folders are synced, so that a stop does not take their names away.
+/// Opens a log's two files to read and write, makes each that is missing, and locks both. The two files and this script are distinct. Their
+/// content stays. Their folders are synced, so that a crash keeps their names.
 ///
 /// # Errors
 ///
-/// The first of the two that is no regular file, that can't be read and written or made, that is another one of the three, that
-/// another program has, or whose folder can't be synced. Nothing is made where a look at both paths shows that one can't be had. A file
-/// that was made stays: it is never taken away, since another program may have it by then, and a log in it.
+/// The first of the two that is refused: it is no regular file, cannot be read and written or made, is another of the three, is locked by
+/// another program, or its folder cannot be synced. Nothing is made if either path already shows that it will be refused. A made file
+/// stays: another program may use it by then, with a log in it.
 pub fn open_or_make_pair<'a, R: Files<File = File>>(
     rt: &R,
     paths: LogPaths<'a>,
@@ -350,11 +346,11 @@ pub fn open_or_make_pair<'a, R: Files<File = File>>(
     claim_pair(rt, paths, script, false)
 }
 
-/// Makes the two files of a log, to be read and written, and takes the lock of each. They are empty. Their folders are synced.
+/// Makes a log's two files to read and write, and locks both. Their folders are synced.
 ///
 /// # Errors
 ///
-/// Those of `open_or_make_pair`; `AlreadyExists`: the file is there, or has bytes before its lock is taken.
+/// Those of `open_or_make_pair`; `AlreadyExists`: the file exists, or has bytes before it is locked.
 pub fn make_pair<'a, R: Files<File = File>>(
     rt: &R,
     paths: LogPaths<'a>,
@@ -364,7 +360,7 @@ pub fn make_pair<'a, R: Files<File = File>>(
     claim_pair(rt, paths, None, true)
 }
 
-/// Opens the two files of a log, which both have to be new where that is told, and makes each where there is none.
+/// Opens a log's two files and makes each that is missing; with `has_to_be_new` both must be made.
 fn claim_pair<'a, R: Files<File = File>>(
     rt: &R,
     paths: LogPaths<'a>,
@@ -385,7 +381,7 @@ fn claim_pair<'a, R: Files<File = File>>(
     }
 }
 
-/// Opens the home area's file beside that of its log, and makes it where there is none.
+/// Opens the home area's file after the log's, and makes it if it is missing.
 fn claim_home<'a, R: Files<File = File>>(
     rt: &R,
     paths: LogPaths<'a>,
@@ -403,15 +399,14 @@ fn claim_home<'a, R: Files<File = File>>(
     }
 }
 
-/// Opens the file of a log, makes it where there is none, and opens the file of a home area that is there, has so many bytes at least
-/// and is kept. They are two files. Each is to be read and written, and its lock is taken. What they hold stays. Their folders are
-/// synced.
+/// Opens a log's file, or makes it, and opens the home area's file, which must exist with at least `home_bytes` bytes. They are distinct,
+/// opened to read and write, and locked. Their content stays. Their folders are synced.
 ///
 /// # Errors
 ///
-/// The first of the two that is no regular file, that can't be read and written or made, that is the other, that another program has,
-/// that is not there or too short as a home area, or whose folder can't be synced. Nothing is made where a look at both paths shows that
-/// one can't be had. A log that was made stays, as for `open_or_make_pair`.
+/// The first of the two that is refused: it is no regular file, cannot be read and written or made, is the other, is locked by another
+/// program, or its folder cannot be synced; or home is missing or too short. Nothing is made if either path already shows that it will be
+/// refused. A made log stays, as for `open_or_make_pair`.
 pub fn open_or_make_log<'a, R: Files<File = File>>(
     rt: &R,
     paths: LogPaths<'a>,
@@ -420,11 +415,11 @@ pub fn open_or_make_log<'a, R: Files<File = File>>(
     claim_log(rt, paths, home_bytes, false)
 }
 
-/// Makes the file of a log, which is empty, and opens the file of a home area as `open_or_make_log` does.
+/// Makes a log's file, and opens the home area's file as `open_or_make_log` does.
 ///
 /// # Errors
 ///
-/// Those of `open_or_make_log`; `AlreadyExists`: the log is there, or has bytes before its lock is taken.
+/// Those of `open_or_make_log`; `AlreadyExists`: the log exists, or has bytes before it is locked.
 pub fn make_log<'a, R: Files<File = File>>(
     rt: &R,
     paths: LogPaths<'a>,
@@ -435,7 +430,7 @@ pub fn make_log<'a, R: Files<File = File>>(
     claim_log(rt, paths, home_bytes, true)
 }
 
-/// Opens the file of a log, which has to be new where that is told, and makes it where there is none, beside a home area that is kept.
+/// Opens a log's file or makes it, and opens a home area that is kept; with `has_to_be_new` the log must be made.
 fn claim_log<'a, R: Files<File = File>>(
     rt: &R,
     paths: LogPaths<'a>,
@@ -456,7 +451,7 @@ fn claim_log<'a, R: Files<File = File>>(
     }
 }
 
-/// Opens the home area's file, which is kept, beside that of its log.
+/// Opens the file of a kept home area after the log's.
 fn keep_home<'a, R: Files<File = File>>(
     rt: &R,
     paths: LogPaths<'a>,
@@ -474,7 +469,7 @@ fn keep_home<'a, R: Files<File = File>>(
     }
 }
 
-/// Opens the file of a home area that is there and has so many bytes at least, which is not this log's, and takes its lock.
+/// Opens and locks an existing home area's file of at least `bytes` bytes, which must not be this log's.
 fn open_kept_home<R: Files<File = File>>(
     rt: &R,
     path: &str,
@@ -488,8 +483,7 @@ fn open_kept_home<R: Files<File = File>>(
     Ok(home)
 }
 
-/// Opens a file of a log, which is neither of these others, makes it where there is none, and takes its lock. Where it has to be new, it
-/// was not there, and is empty.
+/// Opens a log's file or makes it, distinct from these others, and locks it. With `has_to_be_new` it must be made, and be empty.
 fn claim<'a, R: Files<File = File>>(
     rt: &R,
     path: &'a str,
@@ -511,7 +505,7 @@ fn claim<'a, R: Files<File = File>>(
     }
 }
 
-/// This file, which is empty under its lock: between its making and its lock another program may have had it.
+/// The same file if it is empty under its lock: another program may have used it between its making and its lock.
 fn empty<'a>(
     claimed: Opened<'a, LockedFile<WriteLock>>,
 ) -> Result<Opened<'a, LockedFile<WriteLock>>, Unclaimed<'a>>
@@ -526,7 +520,7 @@ fn empty<'a>(
     }
 }
 
-/// Takes the lock of a file that was opened by this path.
+/// Locks a file that was opened by this path.
 fn locked<'a, R: Files<File = File>>(
     rt: &R,
     path: &str,
@@ -544,7 +538,7 @@ fn locked<'a, R: Files<File = File>>(
     }
 }
 
-/// Opens a file to be read and written, and makes it where there is none. What it holds stays. One that has to be new is made.
+/// Opens a file to read and write, or makes it. Its content stays. With `has_to_be_new` it must be made.
 fn open_or_make<'a, R: Files<File = File>>(
     rt: &R,
     path: &'a str,
@@ -562,7 +556,7 @@ fn open_or_make<'a, R: Files<File = File>>(
     }
 }
 
-/// Makes a file to be read and written, where there is none.
+/// Makes a file to read and write.
 fn made<'a, R: Files<File = File>>(
     rt: &R,
     path: &'a str,
@@ -576,7 +570,7 @@ fn made<'a, R: Files<File = File>>(
     })
 }
 
-/// This file, where it is not the other one.
+/// This file, if it differs from the other.
 fn apart_from<'a>(
     other: Option<&RegularFile>,
     opened: Opened<'a, RegularFile>,
@@ -593,8 +587,8 @@ fn apart_from<'a>(
     }
 }
 
-/// These two files, which still have their names, as both are made durable. Where both paths are one file's, and its name was given to another
-/// file between the two openings, the second would be that one.
+/// These two files, if the log still has its name; their names become durable. One file at both paths, renamed between the openings, would
+/// pass for two.
 fn named<'a, R: Files<File = File>>(
     rt: &R,
     paths: LogPaths<'a>,
@@ -614,7 +608,7 @@ fn named<'a, R: Files<File = File>>(
     }
 }
 
-/// Makes durable which files are in the folders of these paths, of which the log's is still this file's.
+/// Makes the names in both folders durable, if the log's path still names this file.
 fn sync_names<'a, R: Files<File = File>>(
     rt: &R,
     paths: LogPaths<'a>,

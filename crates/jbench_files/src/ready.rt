@@ -1,10 +1,12 @@
-//! The file of a log, made ready for a device over it.
+//! Makes a log's file ready for a device.
 ghost use Rattle.std.specs.Prelude.{◌≡◌, IfOk};
 
 use crate::locked::LockedFile;
 use crate::pairs::LogFile;
-use crate::room::{Room, clear};
+use crate::room::{AreaFile, Room, clear};
 use file_device::{ReadLock, WriteLock, settle};
+use jbench_words::watch::Watch;
+use journal_model::Area;
 use journal_model::layout::MAGIC;
 use std::alloc::Global;
 use std::fs::File;
@@ -12,26 +14,26 @@ use std::io;
 use std::io::ErrorKind;
 use std::os::unix::fs::FileExt;
 
-/// Where the superblock says whether the log is clean.
+/// Where the superblock has s_start.
 const START_PLACE: u64 = 0x1c;
 
 /// Bytes of the largest block.
 const MOST_BYTES: u64 = 4096;
 
-/// The file of a log that a device may be made of. What an opening that writes relies on there is on its disk, and not in the system's
-/// memory alone: of a log with the lock of a writer one is made by `settled`, by `with_superblock` or by `cleared`, and in no other way.
+/// A log's file from which a device may be made. With a write lock, what an opening relies on is on the disk, not only in the system's
+/// memory: only `settled`, `with_superblock` and `cleared` make such a log.
 #[derive(Drop)]
 pub(crate) struct ReadyLog {
     file: File,
 }
 
 impl ReadyLog {
-    /// A log that is to be opened. What an opening relies on in it is written once more, just as it reads, and synced: a sync that
-    /// failed may have left it in the system's memory alone.
+    /// A log to open. What an opening relies on is rewritten as it reads, and synced: after a failed sync it may be in the system's memory
+    /// alone.
     ///
     /// # Errors
     ///
-    /// The log can't be read, written or synced.
+    /// The log cannot be read, written or synced.
     pub(crate) fn settled(log: LogFile<WriteLock>) -> io::Result<ReadyLog>
         ensures { IfOk result (λ ready. ready.file ≡ log.file) }
     {
@@ -40,11 +42,11 @@ impl ReadyLog {
         Ok(ReadyLog { file })
     }
 
-    /// A log of which nothing but the superblock is read and written. That is written once more, just as it reads, and synced.
+    /// A log of which only the superblock is used. It is rewritten as it reads, and synced.
     ///
     /// # Errors
     ///
-    /// The log can't be read, written or synced.
+    /// The log cannot be read, written or synced.
     pub(crate) fn with_superblock(log: LockedFile<WriteLock>) -> io::Result<ReadyLog>
         ensures { IfOk result (λ ready. ready.file ≡ log.file.file) }
     {
@@ -53,7 +55,7 @@ impl ReadyLog {
         Ok(ReadyLog { file })
     }
 
-    /// A log that is to be read. Nothing is written.
+    /// A log to read. Nothing is written.
     pub(crate) fn to_read(log: LogFile<ReadLock>) -> ReadyLog
         ensures { result.file ≡ log.file }
     {
@@ -62,31 +64,34 @@ impl ReadyLog {
         }
     }
 
-    /// A log that is to be made, for which the disk has room: all that it held is overwritten, and it has so many zero bytes, durably.
+    /// Overwrites a log with zeros, and makes them durable; the disk has room for them. `watch` learns what is written.
     ///
     /// # Errors
     ///
-    /// It can't be overwritten or synced, and what it held may be lost.
+    /// The log cannot be overwritten or synced; its old content may be lost.
     pub(crate) fn cleared(
         alloc: Global,
         log: LogFile<WriteLock>,
         room: Room,
+        watch: &mut impl Watch,
     ) -> io::Result<ReadyLog>
         ensures { IfOk result (λ ready. ready.file ≡ log.file) }
     {
         let file = log.into_file();
-        clear(alloc, &file, room)?;
+        let of = AreaFile {
+            area: Area::Log,
+            file: &file,
+        };
+        clear(alloc, of, room, watch)?;
         Ok(ReadyLog { file })
     }
 
-    /// The file.
     pub(crate) fn file(&self) -> &File
         ensures { result.now ≡ self.now.file }
     {
         &self.file
     }
 
-    /// The file.
     pub(crate) fn into_file(self) -> File
         ensures { result ≡ self.file }
     {
@@ -94,8 +99,8 @@ impl ReadyLog {
     }
 }
 
-/// How many bytes of a log an opening relies on: of one that is clean its superblock, else all; and nothing of what is no log. (What
-/// stands in the ring of a clean log is of transactions below the next number, and none of it is read for more than its header.)
+/// How many bytes of a log an opening relies on: a clean log's superblock, all of any other log, and none if this is no log. (A clean log's
+/// ring has only transactions below the next number, of which only headers are read.)
 fn relied_on(log: &File) -> io::Result<u64> {
     if number_at(log, 0)? != Some(u32::from_be_bytes(MAGIC)) {
         return Ok(0);
@@ -106,7 +111,7 @@ fn relied_on(log: &File) -> io::Result<u64> {
     }
 }
 
-/// The number at a place of a file, where that is so long.
+/// The number at a place of a file, if the file is long enough.
 pub(crate) fn number_at(file: &File, place: u64) -> io::Result<Option<u32>> {
     let mut bytes = [0; 4];
     match file.read_exact_at(&mut bytes, place) {

@@ -1,4 +1,4 @@
-//! Regular files: how one is opened so that what it holds stays, and which one it is.
+//! Opens regular files, keeps their content, and tells them apart.
 ghost use Rattle.std.specs.Prelude.{◌≡◌, ◌≤◌, ◌↔◌, false, true, IfOk, IsOk};
 ghost use Rattle.std.specs.Fs.{asks_create_new, asks_truncate, metadata_len};
 ghost use Rattle.jbench_files.specs.Apart.{AreApart};
@@ -10,7 +10,7 @@ use std::os::unix::fs::{FileTypeExt, MetadataExt};
 use std::path::Path;
 use std::{fs, io};
 
-/// Which file of the system a file is: no two that are there at once have the same.
+/// The system's identity of a file. Two files that exist at once differ in it.
 #[derive(Clone, Copy, Debug, PartialEq, Eq)]
 pub struct Identity {
     device: u64,
@@ -18,7 +18,6 @@ pub struct Identity {
 }
 
 impl Identity {
-    /// That of the file of which this is told.
     pub(crate) fn of(metadata: &Metadata) -> Identity {
         Identity {
             device: metadata.dev(),
@@ -27,21 +26,21 @@ impl Identity {
     }
 }
 
-/// An open regular file, and which one it is. That of a script may be a pipe.
+/// An open regular file and its identity. A script's file may be a pipe.
 #[derive(Drop)]
 pub struct RegularFile {
     pub(crate) file: File,
     pub(crate) identity: Identity,
-    /// This program made it, where there was none: `open_new` alone says so.
+    /// This program made the file; only `open_new` sets it.
     is_made: bool,
 }
 
 impl RegularFile {
-    /// A file that was opened, which was made then or was there.
+    /// A file that was opened, and whether it was made then.
     ///
     /// # Errors
     ///
-    /// It is no regular file, or the system can tell nothing of it.
+    /// It is no regular file, or the system has no data on it.
     fn of(file: File, is_made: bool) -> io::Result<RegularFile>
         ensures { IfOk result (λ regular. regular.is_made ≡ is_made) }
     {
@@ -56,18 +55,18 @@ impl RegularFile {
         })
     }
 
-    /// Whether two files are one.
+    /// Whether both are the same file.
     pub fn is(&self, other: &RegularFile) -> bool
         ensures { result ≡ false ↔ AreApart self.now other.now }
     {
         self.identity == other.identity
     }
 
-    /// This file, where it is not the other one.
+    /// This file, if it differs from the other.
     ///
     /// # Errors
     ///
-    /// `InvalidInput`: it is.
+    /// `InvalidInput`: they are the same.
     pub fn other_than(self, other: &RegularFile) -> io::Result<RegularFile>
         ensures same { IfOk result (λ file. file ≡ self) }
         ensures apart { IfOk result (λ file. AreApart other.now file) }
@@ -79,20 +78,20 @@ impl RegularFile {
         }
     }
 
-    /// Fails where it has fewer bytes than these.
+    /// Fails if the file has fewer bytes.
     ///
     /// # Errors
     ///
-    /// `InvalidInput`: it has; else what the system answers.
+    /// `InvalidInput`: it has. Otherwise the system's answer.
     pub(crate) fn require_bytes(&self, bytes: u64) -> io::Result<()> {
         require_length(&self.file.metadata()?, bytes)
     }
 
-    /// Fails where it has bytes already, since another program had it before its lock was taken.
+    /// Fails if the file has bytes: another program may have used it before it was locked.
     ///
     /// # Errors
     ///
-    /// `AlreadyExists`: it has; else what the system answers.
+    /// `AlreadyExists`: it has. Otherwise the system's answer.
     pub(crate) fn require_empty(&self) -> io::Result<()> {
         if self.file.metadata()?.len() == 0 {
             Ok(())
@@ -101,12 +100,11 @@ impl RegularFile {
         }
     }
 
-    /// The text that is read from it, as a script's.
+    /// The file as a script's text.
     pub fn into_text(self) -> Text {
         Text::new(self.file)
     }
 
-    /// The file.
     pub fn into_file(self) -> File
         ensures { result ≡ self.file }
     {
@@ -114,7 +112,7 @@ impl RegularFile {
     }
 }
 
-/// Fails where a file of which this is told has fewer bytes than these.
+/// Fails if the file of these data has fewer bytes.
 fn require_length(metadata: &Metadata, bytes: u64) -> io::Result<()>
     ensures { IsOk result ↔ bytes ≤ metadata_len metadata.now }
 {
@@ -128,11 +126,11 @@ fn require_length(metadata: &Metadata, bytes: u64) -> io::Result<()>
     }
 }
 
-/// Where the system has the program's standard input.
+/// The system's path of standard input.
 const STANDARD_INPUT: &str = "/dev/stdin";
 
-/// A file that was not there before this program made it, by its path. `make` alone makes one. It can't be dropped, so a command that
-/// is refused says that the file stays. No file is ever taken away: another program may have it by then, and a log in it.
+/// The path of a file that this program made; only `make` creates one. It cannot be dropped, so a refused command says that the file stays.
+/// Files are never removed: another program may use them by then, with a log in them.
 pub(crate) struct Made<'a> {
     path: &'a str,
 }
@@ -143,14 +141,14 @@ impl<'a> Made<'a> {
         let Made { path: _ } = self;
     }
 
-    /// The path of the file, which stays where the command is refused.
+    /// The path of the file, which stays after a refusal.
     pub(crate) fn stays(self) -> &'a str {
         let Made { path } = self;
         path
     }
 }
 
-/// Why a file of a log can't be had, and its path where it was made for that: then it stays, with no bytes.
+/// Why a log's file is refused, and its path if it was made for that: it then stays, empty.
 #[derive(Drop)]
 pub(crate) struct Unclaimed<'a> {
     pub(crate) error: io::Error,
@@ -163,15 +161,15 @@ impl From<io::Error> for Unclaimed<'_> {
     }
 }
 
-/// That the files of a log have durable names, as `sync_folders` alone says.
+/// Proof that the names of a log's files are durable; only `sync_folders` makes one.
 #[derive(Drop)]
 pub(crate) struct Named(());
 
-/// Makes durable which files are in the folders of these paths.
+/// Makes the names in the folders of these paths durable.
 ///
 /// # Errors
 ///
-/// The path whose folder can't be opened and synced, and why.
+/// The path whose folder cannot be opened and synced, and why.
 pub(crate) fn sync_folders<'a, R: Files<File = File>>(
     rt: &R,
     paths: [&'a str; 2],
@@ -184,7 +182,7 @@ pub(crate) fn sync_folders<'a, R: Files<File = File>>(
     Ok(Named(()))
 }
 
-/// Makes durable which files are in the folder of this one.
+/// Makes the names in this path's folder durable.
 fn sync_folder<R: Files<File = File>>(rt: &R, path: &str) -> io::Result<()> {
     match fs::open(rt, folder_of(path)) {
         Ok(folder) => folder.sync_all(),
@@ -192,7 +190,7 @@ fn sync_folder<R: Files<File = File>>(rt: &R, path: &str) -> io::Result<()> {
     }
 }
 
-/// The folder of the file that has this path.
+/// The folder of this path's file.
 fn folder_of(path: &str) -> &str {
     match Path::new(path).parent() {
         Some(folder) if !folder.as_str().is_empty() => folder.as_str(),
@@ -200,31 +198,31 @@ fn folder_of(path: &str) -> &str {
     }
 }
 
-/// What is opened holds no log and no script.
+/// The file can hold neither a log nor a script.
 fn no_regular_file() -> io::Error {
     io::Error::new(ErrorKind::InvalidInput, "it is no regular file")
 }
 
-/// One file can't be two of a command's files.
+/// One file was given for two.
 pub(crate) fn given_twice() -> io::Error {
     io::Error::new(ErrorKind::InvalidInput, "it is given twice")
 }
 
-/// Opens a file to be read. Before it is opened it has to be a regular one: a pipe would wait for whoever writes to it.
+/// Opens a regular file to read. The kind is tested first, as opening a pipe would wait for its writer.
 ///
 /// # Errors
 ///
-/// There is no regular file of this path, or it can't be read.
+/// The path names no regular file, or it cannot be read.
 pub fn open_to_read<R: Files<File = File>>(rt: &R, path: &str) -> io::Result<RegularFile> {
     require_regular(rt, path)?;
     open_as(rt, OpenOptions::new().read(true), path)
 }
 
-/// Opens a script to be read: a regular file, a pipe, or standard input where the path is `-`.
+/// Opens a script to read: a regular file, a pipe, or standard input for the path `-`.
 ///
 /// # Errors
 ///
-/// There is no such file, or it can't be read.
+/// The path names no such file, or it cannot be read.
 pub fn open_text<R: Files<File = File>>(rt: &R, path: &str) -> io::Result<RegularFile> {
     let is_input = path == "-";
     let place = if is_input { STANDARD_INPUT } else { path };
@@ -238,8 +236,7 @@ pub fn open_text<R: Files<File = File>>(rt: &R, path: &str) -> io::Result<Regula
     })
 }
 
-/// Fails where a file of which this is told holds no script: it is neither a regular one nor a pipe, nor standard input of any kind but
-/// a folder.
+/// Fails if the file of these data is no script: it must be a regular file or a pipe; standard input may be anything but a folder.
 fn require_text(metadata: &Metadata, is_input: bool) -> io::Result<()> {
     let is_taken = metadata.is_file() || metadata.file_type().is_fifo();
     if is_taken || is_input && !metadata.is_dir() {
@@ -249,21 +246,21 @@ fn require_text(metadata: &Metadata, is_input: bool) -> io::Result<()> {
     }
 }
 
-/// Opens a file to be read and written, which has to be a regular one. What it holds stays.
+/// Opens a regular file to read and write. Its content stays.
 ///
 /// # Errors
 ///
-/// There is no regular file of this path, or it can't be read and written.
+/// The path names no regular file, or it cannot be read and written.
 pub(crate) fn open_there<R: Files<File = File>>(rt: &R, path: &str) -> io::Result<RegularFile> {
     require_regular(rt, path)?;
     open_as(rt, OpenOptions::new().read(true).write(true), path)
 }
 
-/// Makes a file to be read and written, where there is none.
+/// Makes a file to read and write.
 ///
 /// # Errors
 ///
-/// There is a file of this path, or none can be made; or one was made, of which the system can tell nothing.
+/// The path names a file; none can be made; or the system has no data on the made file.
 pub(crate) fn make<'a, R: Files<File = File>>(
     rt: &R,
     path: &'a str,
@@ -277,7 +274,7 @@ pub(crate) fn make<'a, R: Files<File = File>>(
     )
 }
 
-/// Opens a file in a way that fails where there is one.
+/// Opens a file in a mode that fails if it exists.
 fn open_new<'a, R: Files<File = File>>(
     rt: &R,
     how: &OpenOptions,
@@ -297,14 +294,14 @@ fn open_new<'a, R: Files<File = File>>(
     }
 }
 
-/// Opens a file in a way that leaves it what it holds.
+/// Opens a file in a mode that keeps its content.
 fn open_as<R: Files<File = File>>(rt: &R, how: &OpenOptions, path: &str) -> io::Result<RegularFile>
     requires { asks_truncate how.now ≡ false }
 {
     RegularFile::of(how.open(rt, path)?, false)
 }
 
-/// Fails where there is no regular file of this path. It opens nothing.
+/// Fails if the path names no regular file. Opens nothing.
 fn require_regular<R: Files<File = File>>(rt: &R, path: &str) -> io::Result<()> {
     if fs::metadata(rt, path)?.is_file() {
         Ok(())
@@ -313,11 +310,11 @@ fn require_regular<R: Files<File = File>>(rt: &R, path: &str) -> io::Result<()> 
     }
 }
 
-/// Fails where there is no regular file of this path, and none can be made since there is no folder for it. It opens and makes nothing.
+/// Fails if the path names no regular file, and none can be made for lack of a folder. Opens and makes nothing.
 ///
 /// # Errors
 ///
-/// What is there is no regular file; there is no such folder; else what the system answers.
+/// The path names another kind of file; its folder is missing. Otherwise the system's answer.
 pub(crate) fn require_place<R: Files<File = File>>(rt: &R, path: &str) -> io::Result<()> {
     match require_regular(rt, path) {
         Err(e) if e.kind() == ErrorKind::NotFound && !path.is_empty() => {
@@ -327,7 +324,7 @@ pub(crate) fn require_place<R: Files<File = File>>(rt: &R, path: &str) -> io::Re
     }
 }
 
-/// Fails where there is no folder of this path.
+/// Fails if the path names no folder.
 fn require_folder<R: Files<File = File>>(rt: &R, path: &str) -> io::Result<()> {
     if fs::metadata(rt, path)?.is_dir() {
         Ok(())
@@ -336,11 +333,11 @@ fn require_folder<R: Files<File = File>>(rt: &R, path: &str) -> io::Result<()> {
     }
 }
 
-/// Fails where there is no regular file of this path with so many bytes. It opens nothing.
+/// Fails if the path names no regular file of at least this many bytes. Opens nothing.
 ///
 /// # Errors
 ///
-/// `InvalidInput`: what is there is no regular file, or has fewer bytes; else what the system answers.
+/// `InvalidInput`: the path names another kind of file, or a shorter one. Otherwise the system's answer.
 pub(crate) fn require_kept<R: Files<File = File>>(
     rt: &R,
     path: &str,

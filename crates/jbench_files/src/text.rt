@@ -1,4 +1,4 @@
-//! The text of a script, which is read to its end, if that comes in time: who writes to a pipe may never end.
+//! Reads a script's text, up to a limit: the writer to a pipe may never end.
 use std::fs::File;
 use std::io;
 use std::io::{ErrorKind, Read};
@@ -6,18 +6,18 @@ use std::io::{ErrorKind, Read};
 /// The most bytes of a text.
 const MOST_BYTES: u64 = 256 * 1024 * 1024;
 
-/// The text that is read from a file: 256 MiB at most. A read behind that fails.
+/// A file's text, of at most `MOST_BYTES`; a longer one fails.
 #[derive(Drop)]
 pub struct Text {
     file: File,
-    /// How many bytes may still be read.
+    /// How many more bytes may be read.
     left: u64,
 }
 
 impl Text {
     ghost use Rattle.std.specs.Prelude.{◌≡◌, IfOk};
 
-    /// The text of a file, of which nothing was read.
+    /// A file's text from its current place.
     pub(crate) fn new(file: File) -> Text {
         Text {
             file,
@@ -25,7 +25,7 @@ impl Text {
         }
     }
 
-    /// Fails where the file has a further byte.
+    /// Fails if the file has another byte.
     fn end(&mut self) -> io::Result<usize>
         ensures { IfOk result (λ count. count ≡ 0) }
     {

@@ -1,21 +1,19 @@
-//! What a shell is told so that it completes the words of the program.
+//! Makes a shell complete the program's words.
 use crate::usage::{Usage, commands};
 use std::io;
 use std::io::Write;
 
-/// A shell that completes words.
 #[derive(Clone, Copy, Debug)]
 pub enum Shell {
     /// GNU bash.
     Bash,
-    /// zsh, which takes what bash is told by its `bashcompinit`.
+    /// zsh, which takes the commands of bash by its `bashcompinit`.
     Zsh,
     /// fish.
     Fish,
 }
 
 impl Shell {
-    /// The shell of this name, if there is one.
     pub fn named(name: &str) -> Option<Shell> {
         match name {
             "bash" => Some(Shell::Bash),
@@ -26,12 +24,12 @@ impl Shell {
     }
 }
 
-/// Writes the commands of a shell that let it complete the words of the program: its commands, and the options of each. What is no
-/// option behind a command is a file. No help of a command or an option has a double quote, a dollar sign or a backslash.
+/// Writes shell commands that complete the program's commands and their options; any other word is a file. No help text has a double quote,
+/// a dollar sign or a backslash.
 ///
 /// # Errors
 ///
-/// They can't be written.
+/// They could not be written.
 pub fn write_completions<W: Write>(shell: Shell, out: &mut W) -> io::Result<()> {
     match shell {
         Shell::Bash => write_bash(out),
@@ -43,14 +41,14 @@ pub fn write_completions<W: Write>(shell: Shell, out: &mut W) -> io::Result<()> 
     }
 }
 
-/// How the function of bash begins, up to the commands.
+/// The front of bash's function, up to the commands.
 const BASH_BEGINS: &str = "\
 _jbench() {
     local last=${COMP_WORDS[COMP_CWORD]} list=
     case $COMP_CWORD,${COMP_WORDS[1]},$last in
     1,*) list='--help --version help";
 
-/// How the function of bash ends, behind the options of the commands.
+/// The end of bash's function, after the options.
 const BASH_ENDS: &str = "    2,completions,*) list='bash zsh fish' ;;
     esac
     COMPREPLY=($(compgen -W \"$list\" -- \"$last\"))
@@ -58,8 +56,7 @@ const BASH_ENDS: &str = "    2,completions,*) list='bash zsh fish' ;;
 complete -o default -F _jbench jbench
 ";
 
-/// Writes a function of bash, which is called with the words that stand there, and looks at the place of the last one, the command and
-/// the last one itself.
+/// Writes a function of bash. It gets the words so far, and uses the last one, its place, and the command.
 fn write_bash<W: Write>(out: &mut W) -> io::Result<()> {
     write!(out, "{BASH_BEGINS}")?;
     write_names(out)?;
@@ -69,7 +66,7 @@ fn write_bash<W: Write>(out: &mut W) -> io::Result<()> {
     write!(out, "{BASH_ENDS}")
 }
 
-/// Writes the names of the commands, which end the line that `BASH_BEGINS` begins.
+/// Writes the commands' names, which end the line that `BASH_BEGINS` begins.
 fn write_names<W: Write>(out: &mut W) -> io::Result<()> {
     for usage in &commands() {
         write!(out, " {}", usage.name)?;
@@ -77,7 +74,7 @@ fn write_names<W: Write>(out: &mut W) -> io::Result<()> {
     writeln!(out, "' ;;")
 }
 
-/// Writes which options a command has, for bash.
+/// Writes a command's options for bash.
 fn write_bash_command<W: Write>(usage: &Usage, out: &mut W) -> io::Result<()> {
     write!(out, "    *,{},-*) list='--help", usage.name)?;
     for word in usage.words {
@@ -88,7 +85,6 @@ fn write_bash_command<W: Write>(usage: &Usage, out: &mut W) -> io::Result<()> {
     writeln!(out, "' ;;")
 }
 
-/// Writes the commands of fish.
 fn write_fish<W: Write>(out: &mut W) -> io::Result<()> {
     writeln!(out, "complete -c jbench -l help -d \"Print help\"")?;
     writeln!(
@@ -104,7 +100,7 @@ fn write_fish<W: Write>(out: &mut W) -> io::Result<()> {
     )
 }
 
-/// Writes what a command does, and which options it has, for fish.
+/// Writes a command's help and options for fish.
 fn write_fish_command<W: Write>(usage: &Usage, out: &mut W) -> io::Result<()> {
     let Usage { name, about, .. } = usage;
     writeln!(

@@ -1,7 +1,7 @@
-//! The help of the program `jbench`, and what else is told in its words.
+//! The help of the program `jbench`, and the texts derived from it.
 //!
-//! `usage` has the texts of the help, `parser` the program as `clap` has it, and `completions` and `manual` what shells and `man` are
-//! told of both.
+//! `usage` has the help texts; `parser` makes the program for `clap`, `completions` the shells' completions, and `manual` the page for
+//! `man`.
 #![tactic(auto)]
 
 mod completions;

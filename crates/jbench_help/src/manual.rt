@@ -1,14 +1,14 @@
-//! The page of the program for `man`.
+//! The program's page for `man`.
 use crate::parser::VERSION;
 use crate::usage::{PROGRAM, Usage, Word, commands};
 use std::io;
 use std::io::Write;
 
-/// Writes the page, in the words of `roff`: what the help of the program and of each command tells. No text of these has a backslash.
+/// Writes the page in `roff`, from the help of the program and its commands. No text has a backslash.
 ///
 /// # Errors
 ///
-/// It can't be written.
+/// It could not be written.
 pub fn write_manual<W: Write>(out: &mut W) -> io::Result<()> {
     writeln!(
         out,
@@ -23,7 +23,6 @@ pub fn write_manual<W: Write>(out: &mut W) -> io::Result<()> {
     Ok(())
 }
 
-/// Writes the part of a command.
 fn write_command<W: Write>(usage: &Usage, out: &mut W) -> io::Result<()> {
     write_form(usage, out)?;
     writeln!(out, "\n{}.", usage.about)?;
@@ -32,7 +31,7 @@ fn write_command<W: Write>(usage: &Usage, out: &mut W) -> io::Result<()> {
     write_text(usage.after_help, out)
 }
 
-/// Writes the name of a command, and the values that have to stand behind it.
+/// Writes a command's name and its required values.
 fn write_form<W: Write>(usage: &Usage, out: &mut W) -> io::Result<()> {
     write!(out, ".SS {}", usage.name)?;
     for word in usage.words {
@@ -43,7 +42,7 @@ fn write_form<W: Write>(usage: &Usage, out: &mut W) -> io::Result<()> {
     Ok(())
 }
 
-/// Writes those of the words that are options.
+/// Writes the words that are options.
 fn write_options<W: Write>(words: &[Word], out: &mut W) -> io::Result<()> {
     for word in words {
         if word.is_option {
@@ -53,7 +52,6 @@ fn write_options<W: Write>(words: &[Word], out: &mut W) -> io::Result<()> {
     Ok(())
 }
 
-/// Writes an option.
 fn write_option<W: Write>(word: &Word, out: &mut W) -> io::Result<()> {
     writeln!(
         out,
@@ -62,7 +60,7 @@ fn write_option<W: Write>(word: &Word, out: &mut W) -> io::Result<()> {
     )
 }
 
-/// Writes a text. A line that begins with a blank stays one; the others flow. One that begins with a sign of `roff` is told to be text.
+/// Writes a text. Lines that begin with a blank stay lines; others flow. A line that begins like a `roff` request is marked as text.
 fn write_text<W: Write>(text: &str, out: &mut W) -> io::Result<()> {
     for line in text.lines() {
         let mark = if line.starts_with('\'') || line.starts_with('.') {

@@ -3,17 +3,16 @@ use crate::usage::{PROGRAM, Usage, Word, commands, usage_named};
 use clap::{Arg, ArgAction, Command};
 use std::alloc::{AllocError, Global};
 
-/// The version that the program tells.
 pub(crate) const VERSION: &str = "0.1.0";
 
-/// A value that may stand behind a command.
+/// A value without an option name.
 fn bare_arg<'a>(alloc: Global, word: &Word) -> Arg<'a> {
     Arg::new(alloc, word.name)
         .value_name(word.value)
         .help(word.help)
 }
 
-/// A flag, which takes no value.
+/// A flag takes no value.
 fn flag<'a>(alloc: Global, word: &Word) -> Arg<'a> {
     Arg::new(alloc, word.name)
         .long(word.name)
@@ -21,7 +20,6 @@ fn flag<'a>(alloc: Global, word: &Word) -> Arg<'a> {
         .action(ArgAction::SetTrue)
 }
 
-/// A word as `clap` has it.
 fn arg_of<'a>(alloc: Global, word: &Word) -> Arg<'a> {
     if word.value.is_empty() {
         flag(alloc, word)
@@ -32,14 +30,13 @@ fn arg_of<'a>(alloc: Global, word: &Word) -> Arg<'a> {
     }
 }
 
-/// A command with no words behind it.
+/// A command without arguments.
 fn bare_command<'a>(alloc: Global, usage: &Usage) -> Command<'a> {
     Command::new(alloc, usage.name)
         .about(usage.about)
         .after_help(usage.after_help)
 }
 
-/// Words as `clap` has them.
 fn args_of<'a>(alloc: Global, words: &[Word]) -> Result<Vec<Arg<'a>>, AllocError> {
     let mut args = Vec::new(alloc);
     for word in words {
@@ -48,12 +45,10 @@ fn args_of<'a>(alloc: Global, words: &[Word]) -> Result<Vec<Arg<'a>>, AllocError
     Ok(args)
 }
 
-/// A command as `clap` has it.
 fn command_of<'a>(alloc: Global, usage: &Usage) -> Result<Command<'a>, AllocError> {
     bare_command(alloc, usage).args(args_of(alloc, usage.words)?)
 }
 
-/// The commands of the program.
 fn all_commands<'a>(alloc: Global) -> Result<Vec<Command<'a>>, AllocError> {
     let mut all = Vec::new(alloc);
     for usage in &commands() {
@@ -62,7 +57,6 @@ fn all_commands<'a>(alloc: Global) -> Result<Vec<Command<'a>>, AllocError> {
     Ok(all)
 }
 
-/// The program with these commands.
 fn program_with<'a>(alloc: Global, commands: Vec<Command<'a>>) -> Result<Command<'a>, AllocError> {
     bare_command(alloc, &PROGRAM)
         .version(VERSION)
@@ -71,7 +65,7 @@ fn program_with<'a>(alloc: Global, commands: Vec<Command<'a>>) -> Result<Command
         .subcommands(commands)
 }
 
-/// The program.
+/// The whole program.
 ///
 /// # Errors
 ///
@@ -80,13 +74,13 @@ pub fn program<'a>(alloc: Global) -> Result<Command<'a>, AllocError> {
     program_with(alloc, all_commands(alloc)?)
 }
 
-/// A command as a program of its own.
+/// A command as its own program.
 fn alone<'a>(alloc: Global, usage: &Usage) -> Result<Command<'a>, AllocError> {
     let called = format!(in alloc; "jbench {}", usage.name)?;
     command_of(alloc, usage)?.bin_name(&called)
 }
 
-/// The command of this name as a program of its own, or the whole program where there is none.
+/// The command of this name as its own program, or the whole program if there is none.
 ///
 /// # Errors
 ///

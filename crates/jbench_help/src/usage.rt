@@ -1,26 +1,25 @@
-//! What the help tells: the program and its commands, and the words that stand behind each.
+//! The help texts of the program, its commands, and their words.
 
-/// A command as its help tells of it.
+/// A command's help.
 pub(crate) struct Usage {
     pub(crate) name: &'static str,
-    /// What it does, in a line.
+    /// One line on what it does.
     pub(crate) about: &'static str,
-    /// What stands at the end of its help.
+    /// The end of its help.
     pub(crate) after_help: &'static str,
-    /// What stands behind it.
+    /// The words after it.
     pub(crate) words: &'static [Word],
 }
 
-/// A value that has to stand behind a command, or one that may, behind `--NAME`; or `--NAME` alone, which takes none.
+/// A command's word: a required value, an option `--NAME` with a value, or a flag `--NAME`.
 pub(crate) struct Word {
     pub(crate) name: &'static str,
-    /// What its help calls the value, empty where it takes none.
+    /// The value's name in the help; empty for a flag.
     pub(crate) value: &'static str,
     pub(crate) is_option: bool,
     pub(crate) help: &'static str,
 }
 
-/// The program itself.
 pub(crate) const PROGRAM: Usage = Usage {
     name: "jbench",
     about: "Runs scripts of journal operations over a disk in memory that loses power and judges what is left; makes, prints and recovers logs",
@@ -38,14 +37,16 @@ format LOG HOME [--block B] [--length M] [--home N] [--uuid DIGITS] [--wide] [--
 blocks (default: 33) and a home area of N zero blocks (default: 64), of B bytes each (default: 1024), or only the first does.
 dump LOG [--damaged | --copy PLACE]: prints the log in a file, where that is told up to a damaged block; or the bytes of one copy.
 show LOG: prints each field of the superblock in a file, why an opening would refuse it, and what the ring holds.
-cat LOG HOME BLOCK: prints a block of the home area as an opening would leave it, and writes nothing.
-recover LOG HOME [--before-damage] [--dry-run]: opens the log in a file, and brings home what its complete transactions copied,
-where that is told also those of a damaged log; or says what it would do.
+cat LOG HOME BLOCK [--wait SECONDS]: prints a block of the home area as an opening would leave it, and writes nothing.
+recover LOG HOME [--before-damage] [--dry-run] [--wait SECONDS]: opens the log in a file, and brings home what its complete
+transactions copied, where that is told also those of a damaged log; or says what it would do.
 upgrade LOG: gives the empty log in a file block numbers of 64 bits.
-apply LOG HOME SCRIPT [--stay] [--keep-going]: opens the log in a file, and does the operations of a script over it and its home
-area.
-bench LOG HOME [--seconds N] [--transactions N] [--copies K] [--threads N] [--csv]: opens the log in a file, and tells how long
-transactions take.
+apply LOG HOME SCRIPT [--stay] [--keep-going] [--make-room] [--wait SECONDS]: opens the log in a file, and does the operations of a
+script over it and its home area.
+bench LOG HOME [--seconds N] [--transactions N] [--copies K] [--threads N] [--csv] [--wait SECONDS]: opens the log in a file, and
+tells how long transactions take.
+serve LOG HOME [--read-only] [--export NAME] [--wait SECONDS]: opens the log in a file, and serves its home area as a block device
+over NBD.
 completions SHELL: prints what bash, zsh or fish is told so that it completes these words.
 man: prints the page for man.
 build [--status]: a word of the script ./jbench, which makes the proved program, or says how far that is.
@@ -56,7 +57,6 @@ Example: jbench run examples/one_write.json --stop 4 --keep 4",
     words: &[],
 };
 
-/// The command `run`.
 pub(crate) const RUN: Usage = Usage {
     name: "run",
     about: "Runs a script, stops the device, opens what the stop left, and judges it",
@@ -164,7 +164,6 @@ Example: jbench run examples/one_write.json --stop 4 --keep 4",
     ],
 };
 
-/// The command `sweep`.
 pub(crate) const SWEEP: Usage = Usage {
     name: "sweep",
     about: "Runs a script with a stop at each of its writes, opens what each stop may have left, and judges it",
@@ -207,7 +206,6 @@ Example: jbench sweep examples/two_blocks.json --fail",
     ],
 };
 
-/// The command `check`.
 pub(crate) const CHECK: Usage = Usage {
     name: "check",
     about: "Says whether a script is good, and where it is not, which key or operation is bad, and why",
@@ -230,7 +228,6 @@ Example: jbench check examples/two_blocks.json",
     }],
 };
 
-/// The command `threads`.
 pub(crate) const THREADS: Usage = Usage {
     name: "threads",
     about: "Runs the clients of a script, each in a thread of its own over one journal, and judges what came of them",
@@ -264,7 +261,6 @@ Example: jbench threads examples/two_clients.json",
     }],
 };
 
-/// The command `format`.
 pub(crate) const FORMAT: Usage = Usage {
     name: "format",
     about: "Makes two files an empty log and a home area of zeros, or makes a log beside a home area that is kept",
@@ -343,7 +339,6 @@ Example: jbench format log home --block 4096 --length 1024",
     ],
 };
 
-/// The command `dump`.
 pub(crate) const DUMP: Usage = Usage {
     name: "dump",
     about: "Prints the log in a file: its superblock, and each block of its complete transactions",
@@ -383,7 +378,6 @@ Examples:
     ],
 };
 
-/// The command `cat`.
 pub(crate) const CAT: Usage = Usage {
     name: "cat",
     about: "Prints a block of the home area as an opening of its log would leave it",
@@ -414,10 +408,15 @@ Example: jbench cat log home 9 | xxd",
             is_option: false,
             help: "The block of the home area, counted from 0",
         },
+        Word {
+            name: "wait",
+            value: "SECONDS",
+            is_option: true,
+            help: "Wait so long for a file that another program writes, 1 to 86400 [default: not at all]",
+        },
     ],
 };
 
-/// The command `show`.
 pub(crate) const SHOW: Usage = Usage {
     name: "show",
     about: "Prints each field of the superblock of the log in a file by its name, whatever its value is",
@@ -438,7 +437,6 @@ Example: jbench show log",
     }],
 };
 
-/// The command `recover`.
 pub(crate) const RECOVER: Usage = Usage {
     name: "recover",
     about: "Opens the log in a file: brings home what its complete transactions copied, and leaves it clean",
@@ -495,10 +493,15 @@ Examples:
             is_option: true,
             help: "Write nothing, and tell what would be done",
         },
+        Word {
+            name: "wait",
+            value: "SECONDS",
+            is_option: true,
+            help: "Wait so long for a file that another program has, 1 to 86400 [default: not at all]",
+        },
     ],
 };
 
-/// The command `upgrade`.
 pub(crate) const UPGRADE: Usage = Usage {
     name: "upgrade",
     about: "Gives the empty log in a file block numbers of 64 bits: format --wide makes such a log from the start",
@@ -522,7 +525,6 @@ Example: jbench upgrade log",
     }],
 };
 
-/// The command `apply`.
 pub(crate) const APPLY: Usage = Usage {
     name: "apply",
     about: "Opens the log in a file, and does the operations of a script over it and its home area",
@@ -537,6 +539,9 @@ they stand. What one handle writes is there whole or not at all, whenever the po
 committed is there. The first operation that is refused ends the work behind its line, and so does a refusal to close: the journal is
 not closed, what was committed stands in the log, and of the running transaction nothing is there. With --keep-going only one that
 is refused because a file failed ends it; any other is printed with its refusal, and the work goes on.
+
+A commit for which the log has no room is refused, unless --make-room is given: then what is committed goes home first, as by
+'check', and the operation is done after that. Its line says what it came to then, and there is no other for the round.
 
 Exit status: 0 done; 1 refused: the words, a file, the script, the log, or the end of the work.
 
@@ -574,10 +579,21 @@ Example: blocks 9 and 10 of the home area change together:
             is_option: true,
             help: "Go on behind an operation that is refused, unless a file failed",
         },
+        Word {
+            name: "make-room",
+            value: "",
+            is_option: true,
+            help: "Where the log has no room for a commit, bring home what is committed, and do it then",
+        },
+        Word {
+            name: "wait",
+            value: "SECONDS",
+            is_option: true,
+            help: "Wait so long for a file that another program has, 1 to 86400 [default: not at all]",
+        },
     ],
 };
 
-/// The command `bench`.
 pub(crate) const BENCH: Usage = Usage {
     name: "bench",
     about: "Opens the log in a file, overwrites blocks all over its home area in transactions of one handle each, and tells how many a second were durable",
@@ -595,7 +611,8 @@ handles each had.
 It prints how many transactions and blocks were durable, in which time from the opened log to the last commit, and how many a second;
 the nanoseconds that a commit took, from its request until it was durable with the rounds that it needed: the median, what 99 of 100
 did not exceed, and the most; and how many reads, writes and flushes of one block each area got, those of the opening and of the close too. On
-a terminal it says on standard error each second how many transactions are durable.
+a terminal it says on standard error each second how many transactions are durable, and how many a second that is so far: where it is
+interrupted these figures are all.
 
 With --csv it prints all of that as two lines with commas instead, the names of the columns and their values, with the times that 1, 5, 10,
 25, 50, 75, 90, 95 and 99 of 100 commits did not exceed.
@@ -646,10 +663,65 @@ Example: jbench bench log home --seconds 10 --copies 4",
             is_option: true,
             help: "Print a line of column names and one of values, with commas",
         },
+        Word {
+            name: "wait",
+            value: "SECONDS",
+            is_option: true,
+            help: "Wait so long for a file that another program has, 1 to 86400 [default: not at all]",
+        },
     ],
 };
 
-/// The command `completions`.
+pub(crate) const SERVE: Usage = Usage {
+    name: "serve",
+    about: "Serves the home area of a log as a block device over NBD, on standard input and output, to one client",
+    after_help: "\
+The log is opened as by recover. The client speaks on standard input and output, which may be a socket: libnbd starts the server by
+itself, systemd and inetd for each connection. It ends with its client; then all that was written is committed, and the log is
+left clean. Messages go to standard error.
+
+A write is there whole after a crash, or not at all, where it lies in no more blocks than a transaction can have: about a quarter of
+the log; the export's description says how many. A longer one is several such writes, in order. A flush that was answered, and a write
+with FUA, is durable. docs/BLOCK-DEVICE.md says how to connect to it.
+
+Exit status: 0 the client ended between two requests; 1 refused: the words, a file, the log, or the device; or the client ended within a
+request, could not be read or written, or sent what is no NBD.
+
+Example: nbdsh -c 'h.connect_command([\"jbench\", \"serve\", \"log\", \"home\"])' -c 'print(h.get_size())'",
+    words: &[
+        Word {
+            name: "log",
+            value: "LOG",
+            is_option: false,
+            help: "The file of the log",
+        },
+        Word {
+            name: "home_file",
+            value: "HOME",
+            is_option: false,
+            help: "The file of the home area",
+        },
+        Word {
+            name: "read-only",
+            value: "",
+            is_option: true,
+            help: "Refuse each request that changes bytes",
+        },
+        Word {
+            name: "export",
+            value: "NAME",
+            is_option: true,
+            help: "The name of the export, which is the default one too [default: the empty name]",
+        },
+        Word {
+            name: "wait",
+            value: "SECONDS",
+            is_option: true,
+            help: "Wait so long for a file that another program has, 1 to 86400 [default: not at all]",
+        },
+    ],
+};
+
 pub(crate) const COMPLETIONS: Usage = Usage {
     name: "completions",
     about: "Prints what a shell is told so that it completes the words of jbench",
@@ -670,7 +742,6 @@ Examples:
     }],
 };
 
-/// The command `man`.
 pub(crate) const MAN: Usage = Usage {
     name: "man",
     about: "Prints the page of jbench for man, which has the help of each command",
@@ -681,8 +752,8 @@ Example: jbench man > jbench.1 && man ./jbench.1",
     words: &[],
 };
 
-/// The commands, as the help names them.
-pub(crate) fn commands() -> [&'static Usage; 14] {
+/// The commands, in the help's order.
+pub(crate) fn commands() -> [&'static Usage; 15] {
     [
         &RUN,
         &SWEEP,
@@ -696,12 +767,13 @@ pub(crate) fn commands() -> [&'static Usage; 14] {
         &UPGRADE,
         &APPLY,
         &BENCH,
+        &SERVE,
         &COMPLETIONS,
         &MAN,
     ]
 }
 
-/// What the command of this name is, if there is one.
+/// The command of this name, if there is one.
 pub(crate) fn usage_named(name: &str) -> Option<&'static Usage> {
     for usage in &commands() {
         if usage.name == name {

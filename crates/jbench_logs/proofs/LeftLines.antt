@@ -1,4 +1,4 @@
--- The line of an opening behind which a log is left, by whether a number is left.
+-- An opening's line, by whether a number is left for the next one.
 use Rattle.std.proofs.Common.{◌≡◌, List, ap, append_assoc, refl, sym, ℕ}
 use Rattle.std.proofs.lemmas.Bool.{false≢true}
 use Rattle.std.specs.Prelude.{Bool, true, false, not, ◌&&◌, nat_lt, if◌then◌else◌, [], ◌∷◌, ◌++◌, codes}
@@ -23,7 +23,7 @@ next-none : (written : Bool) (next : ℕ) → (written && not (nat_lt next great
 next-none true next is = other (nat_lt next greatest_number) is (decimal next) (codes "none")
 next-none false next is = absurd (false≢true is)
 
--- where one is left it is that of an opening
+-- a number is left: the line is an opening's
 pub line-there : (clean written : Bool) (ends_at transactions next : ℕ) → (written && not (nat_lt next greatest_number)) ≡ false →
     left_line clean written ends_at transactions next ≡ opened_line clean ends_at transactions next
 line-there true written ends_at transactions next is =
@@ -32,7 +32,7 @@ line-there false written ends_at transactions next is =
     ap (λ (text : List ℕ). codes "recovered end=" ++ decimal ends_at ++ codes " next=" ++ text ++ codes " transactions=" ++ decimal transactions ++ newline ∷ [])
     (next-there written next is)
 
--- else it has no number
+-- no number is left
 pub line-none : (clean written : Bool) (ends_at transactions next : ℕ) → (written && not (nat_lt next greatest_number)) ≡ true →
     left_line clean written ends_at transactions next ≡ none_line clean ends_at transactions
 line-none true written ends_at transactions next is = ap (λ (text : List ℕ). codes "clean next=" ++ text ++ newline ∷ []) (next-none written next is)

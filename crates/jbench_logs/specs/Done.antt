@@ -1,4 +1,4 @@
--- What a command over a log leaves of its device.
+-- What a command on a log leaves of its device.
 use Rattle.std.specs.Prelude.{◌≡◌, ◌⊎◌, ℕ, Bool, true, false, List, Option, None}
 use Rattle.std.specs.Io.KnownBytes.{Appends}
 use Rattle.journal_model.specs.declared.number.Area.TheVariants.{Home}
@@ -19,32 +19,32 @@ use Rattle.jbench_logs.specs.declared.damage.Taken.{Taken}
 use Rattle.jbench_logs.specs.declared.plans.Planned.{Planned}
 use Rattle.jbench_logs.specs.Said.{recovered_line}
 
--- a log of so many blocks, with this UUID and block numbers of 64 or of 32 bits, was made: all of its blocks are durable, and then
--- home was made durable as it read
+-- a log of this many blocks, with this UUID and 64-bit or 32-bit block numbers, was made and is durable; then home was made durable as it
+-- read
 pub record IsMade (maxlen : ℕ) (uuid : List ℕ) (wide : Bool) (old new : DeviceState) : Type 0 where
   pub formatted : Disk
   pub of_log : IsFormatted old.shape maxlen uuid wide old.disk formatted
   pub of_home : new.disk ≡ flushed formatted Home
 
--- a moment of that: home is as it was, and the superblock comes last; or all was done
+-- a moment of that: home is unchanged, and the superblock comes last; or all is done
 pub data IsMakeMoment (shape : Shape) (maxlen : ℕ) (uuid : List ℕ) (wide : Bool) (old disk : Disk) : Type 0 where
   OfLog : IsMakingMoment shape maxlen uuid wide old disk → IsMakeMoment shape maxlen uuid wide old disk
   OfHome : (formatted : Disk) → IsFormatted shape maxlen uuid wide old formatted → disk ≡ flushed formatted Home → IsMakeMoment shape maxlen uuid wide old disk
 
--- an opening was done: it made the calls that are due for what it read, and home is what the log's complete transactions leave
+-- an opening made the calls that are due for what it read, and home is what the log's complete transactions leave
 pub record IsRecovered (old new : DeviceState) : Type 0 where
   pub superblock : List ℕ
   pub next : ℕ
   pub opening : IsOpening old.shape old.disk new.disk superblock next
   pub calls : IsDone old new
 
--- an opening was done, behind which this number is the next one, and this is told of it
+-- an opening was done, with this next number and this report
 pub record IsOpeningTold (old new : DeviceState) (clean : Bool) (ends_at transactions next : ℕ) : Type 0 where
   pub superblock : List ℕ
   pub opening : IsOpening old.shape old.disk new.disk superblock next
   pub tells : Tells old.shape (reading old.disk) clean ends_at transactions
 
--- the line of an opening was written, of what was found where reads were honest: it has no number where none is left for the next opening
+-- an opening's line was written. If reads were correct, the opening was so. The line has no number if none is left for the next opening
 pub record SaysOpened (honest : Type 0) (old new : DeviceState) (before written : Option (List ℕ)) : Type 0 where
   pub clean : Bool
   pub ends_at : ℕ
@@ -53,16 +53,16 @@ pub record SaysOpened (honest : Type 0) (old new : DeviceState) (before written 
   pub said : Appends before written (recovered_line clean ends_at transactions next)
   pub told : honest → IsOpeningTold old new clean ends_at transactions next
 
--- an upgrade was done: the log was empty, and the calls that are due for its superblock were made
+-- an upgrade was done: the log was empty, and the calls due for its superblock were made
 pub record HasUpgraded (old new : DeviceState) : Type 0 where
   pub sequence : ℕ
   pub is : IsUpgraded old new sequence
 
--- what is left where one was begun, whatever it came to: it was done, or it came no farther than to read, or some of its calls were made
+-- what an upgrade leaves, whatever its result: it was done, or it only read, or it made some of its calls
 abbrev pub IsUpgradeLeft : DeviceState → DeviceState → Type 0
 IsUpgradeLeft old new = HasUpgraded old new ⊎ IsUpgradeBroken old new
 
--- what can be taken of the log was taken, in spite of what stops an opening; and this is what is told of it
+-- an opening in spite of damage took these transactions, and this is the report on them
 pub record IsTakenBefore (old new : DeviceState) (taken : Taken) : Type 0 where
   pub texts : List Text
   pub greatest : ℕ
@@ -71,12 +71,12 @@ pub record IsTakenBefore (old new : DeviceState) (taken : Taken) : Type 0 where
   pub calls : HasDoneBefore old new taken.stopped_by superblock taken.next
   pub tells : TellsBefore (reading old.disk) texts taken.report.clean taken.report.ends_at taken.report.transactions
 
--- such an opening was done
+-- an opening in spite of damage was done
 pub record IsRecoveredBefore (old new : DeviceState) : Type 0 where
   pub taken : Taken
   pub is : IsTakenBefore old new taken
 
--- this is what an opening would do, the one before damage or the other
+-- an opening would do this, in spite of damage or not
 pub record IsPlanOf (before_damage : Bool) (state : DeviceState) (p : Planned) : Type 0 where
   pub plain : before_damage ≡ false →
       IsPlanned state.shape state.disk p.plan.report.clean p.plan.report.ends_at p.plan.report.transactions p.plan.blocks p.plan.next × (p.stopped_by ≡ None)
@@ -88,17 +88,17 @@ pub record IsFoundOut (before_damage : Bool) (state : DeviceState) : Type 0 wher
   pub planned : Planned
   pub is : IsPlanOf before_damage state planned
 
--- why an opening is refused: the one before damage, or the other
+-- why an opening is refused, in spite of damage or not
 abbrev pub IsRefusalOf : (before_damage : Bool) → (honest : Type 0) → DeviceState → DeviceState → JournalError → Type 0
 IsRefusalOf true honest old new e = BeforeRefused honest old new e
 IsRefusalOf false honest old new e = OpeningRefused honest old new e
 
--- what holds at each moment of it
+-- a fact of each moment of an opening, in spite of damage or not
 abbrev pub IsMomentOf : (before_damage : Bool) → Shape → Disk → Disk → Type 0
 IsMomentOf true shape old disk = IsMomentBefore shape old disk
 IsMomentOf false shape old disk = IsMoment shape old disk
 
--- an opening of a device in this state was refused, for such a cause, and the device was read at most behind it
+-- an opening of a device in this state was refused for such a cause, and afterwards the device was at most read
 pub record IsRefusedBy {V : Type 0} (Refusal : (honest : Type 0) → DeviceState → DeviceState → JournalError → Type 0) (state : V → DeviceState) (honest : V → Type 0) (old : DeviceState) (new : V) : Type 0 where
   pub left : V
   pub e : JournalError

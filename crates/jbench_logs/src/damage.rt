@@ -1,4 +1,4 @@
-//! The command `recover --before-damage`, over devices: opens a log in spite of a damaged block, or of one that is ahead.
+//! The command `recover --before-damage`, over devices: opens a log even if a block is damaged or ahead.
 ghost use Rattle.std.specs.Prelude.{◌≡◌, ◌≢◌, IfErr, IfOk, MatchResult};
 ghost use Rattle.block_device.specs.State.{EachMoment};
 ghost use Rattle.damaged_logs.specs.Before.{BeforeRefused, IsMomentBefore};
@@ -19,35 +19,34 @@ use std::io::Write;
 /// What was taken of a log.
 #[derive(Drop)]
 pub struct Taken {
-    /// Which transactions they are.
+    /// The transactions.
     pub report: Report,
-    /// The number of the next transaction.
+    /// The next transaction's number.
     pub next: Tid,
-    /// What an opening refuses the log with, where it does.
+    /// The refusal of a plain opening, if any.
     pub stopped_by: Option<JournalError>,
 }
 
 impl Taken {
-    /// Whether the number of the next transaction was written into the log.
+    /// Whether the opening wrote the next number into the log.
     fn is_written(&self) -> bool {
         is_number_written(self.report, self.stopped_by)
     }
 }
 
-/// Whether an opening before damage writes the number of the next transaction into a log: where that was not clean, or something stopped it.
+/// Whether an opening before damage writes the next number: the log was not clean, or something stopped it.
 pub(crate) fn is_number_written(report: Report, stopped_by: Option<JournalError>) -> bool {
     !report.clean || stopped_by.is_some()
 }
 
-/// Opens the log of a device as `recover` does; one that is refused as damaged or ahead is opened in spite of that: the complete
-/// transactions before the damage go home, or those of the log as it is read, and the log is left clean. Prints what was found, and
-/// where something stopped there, which transactions were taken and what it was. `path` names the log's file. Where the log is refused
-/// all the same one line on `err` says why. `watch` is told of each read and write, and of their end before anything is said. The
-/// device comes back.
+/// Opens a device's log as `recover` does, even if it is damaged or ahead. The complete transactions go home, of a damaged log those before
+/// the damage, and the log is left clean. Prints the report, the transactions taken, and the refusal of a plain opening. `path` names the
+/// log's file. If the log is refused anyway, a line on `err` says why. `watch` learns of each read and write, and of their end before
+/// anything is printed. The device comes back.
 ///
 /// # Errors
 ///
-/// The output can't be written.
+/// The output could not be written.
 pub fn recover_before_damage<D: Device + Drop, H: Watch + Drop, W: Write, E: Write + Drop>(
     alloc: Global,
     path: &str,
@@ -58,7 +57,7 @@ pub fn recover_before_damage<D: Device + Drop, H: Watch + Drop, W: Write, E: Wri
 ) -> io::Result<(Status, D)>
     ensures recovered { IfOk result (λ done. done.0 ≡ Fine → D.honest done.1 → IsRecoveredBefore (D.state device) (D.state done.1)) }
     ensures refused { IfOk result (λ done. done.0 ≢ Fine → (done.0 ≡ Refused) × IsRefusedBy BeforeRefused D.state D.honest (D.state device) done.1) }
-    // In each case, each moment is one of such an opening: nothing else was written.
+    // Whatever the answer: each moment is one of such an opening.
     ensures moments { IfOk result (λ done. D.honest done.1 → EachMoment (IsMomentBefore (D.state device).shape (D.state device).disk) (D.state device) (D.state done.1)) }
 {
     let mut err = err;
@@ -76,8 +75,7 @@ pub fn recover_before_damage<D: Device + Drop, H: Watch + Drop, W: Write, E: Wri
     }
 }
 
-/// Opens the log of a device, whatever stands behind what can be taken of it. `watch` is told of each read and write, and then of
-/// their end.
+/// Opens a device's log in spite of damage. `watch` learns of each read and write, then of their end.
 fn open_watched<D: Device + Drop, H: Watch + Drop>(
     alloc: Global,
     device: D,
@@ -108,13 +106,12 @@ fn open_watched<D: Device + Drop, H: Watch + Drop>(
     }
 }
 
-/// Says what was taken of a log.
 fn say_taken<W: Write>(taken: &Taken, out: &mut W) -> io::Result<()> {
     write_left(taken.report, taken.is_written(), taken.next, out)?;
     say_stopped(taken.report, taken.stopped_by, out)
 }
 
-/// Says which transactions are taken of a log, and what stops an opening behind them, where something does.
+/// Prints which transactions are taken of a log, and the refusal of a plain opening, if any.
 pub(crate) fn say_stopped<W: Write>(
     report: Report,
     stopped_by: Option<JournalError>,

@@ -1,18 +1,18 @@
-//! The features of a superblock by name, and what would have to be done before a log with another one can be taken.
+//! The features of a superblock by name, and how an owner removes one that is not accepted.
 use std::io;
 use std::io::Write;
 
-/// A feature: its bit, its name, and what an owner does to be rid of it.
+/// A feature: its bit, its name, and how an owner removes it.
 pub(crate) struct Feature {
     bit: u32,
     name: &'static str,
     way_out: &'static str,
 }
 
-/// The incompatible feature that has to be there.
+/// The required incompatible feature.
 pub(crate) const REVOKE: u32 = 0x1;
 
-/// The other incompatible feature that is taken: block numbers of 64 bits.
+/// The other incompatible feature that is accepted: 64-bit block numbers.
 pub(crate) const WIDE_NUMBERS: u32 = 0x2;
 
 /// Compatible features.
@@ -58,10 +58,10 @@ pub(crate) const INCOMPATIBLE: [Feature; 6] = [
     },
 ];
 
-/// Features that are compatible for reading alone have no names.
+/// Read-only compatible features have no names.
 pub(crate) const READ_ONLY_COMPATIBLE: [Feature; 0] = [];
 
-/// Prints a field of features: its number, and the name of each bit that is set.
+/// Prints a field of features: its number and the name of each set bit.
 pub(crate) fn write_features(
     out: &mut impl Write,
     name: &str,
@@ -82,7 +82,7 @@ pub(crate) fn write_features(
     writeln!(out)
 }
 
-/// Prints a line for each feature that is set and not taken, with what an owner does to be rid of it.
+/// Prints how an owner removes each set feature that is not accepted, a line each.
 pub(crate) fn write_ways_out(
     out: &mut impl Write,
     bits: u32,

@@ -1,9 +1,9 @@
-//! The commands of `jbench` that need no more than a log, over devices.
+//! The commands of `jbench` on a log alone, over devices.
 //!
-//! `logs` has the commands `format`, `dump`, `recover` and `upgrade`, `show` the command of that name, with the names of `features`;
-//! `overwriting` says what a log holds that is about to be made anew, `reasons` why one is refused, where its refusal does not, `ways_out` what its owner can do then, and `watched` is a device
-//! that tells of its calls. `damage` opens a log that is refused as damaged or ahead, `plans` says what openings would do, and
-//! `recovering` does which of these the words of `recover` tell. The files that such a device is over are opened by `jbench_files`.
+//! `logs` has `format`, `dump`, `recover` and `upgrade`; `show` has `show`, with the names of `features`. `overwriting` describes a log
+//! that will be overwritten, `reasons` explains a refusal, `ways_out` says what an owner can do, and `watched` is a device that reports its
+//! calls. `damage` opens damaged logs and logs that are ahead, `plans` says what openings would do, and `recovering` picks one for
+//! `recover`. `jbench_files` opens the files of devices.
 #![tactic(auto)]
 
 pub mod damage;

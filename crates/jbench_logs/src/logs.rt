@@ -26,12 +26,12 @@ use std::alloc::Global;
 use std::io;
 use std::io::{BufWriter, Write};
 
-/// Makes an empty log on a device, which has these measures, and home durable as it reads, and prints what it made. `path` names the
-/// log's file. Where it can't go on, one line on `err` says why.
+/// Makes an empty log on a device of these measures, makes home durable as it reads, and prints the result. `path` names the log's file. A
+/// line on `err` says why it cannot go on.
 ///
 /// # Errors
 ///
-/// The output can't be written.
+/// The output could not be written.
 pub fn format<D: Device, W: Write + Drop, E: Write + Drop>(
     path: &str,
     measures: &Measures,
@@ -41,7 +41,7 @@ pub fn format<D: Device, W: Write + Drop, E: Write + Drop>(
 ) -> io::Result<Status>
     ensures made { IfOk result (λ status. status ≡ Fine → IsMade measures.now.log_blocks measures.now.uuid measures.now.wide (D.state device.old) (D.state device.new)) }
     ensures other { IfOk result (λ status. status ≢ Fine → status ≡ Refused) }
-    // Whatever the answer is: home stays, but that it may be durable as it reads.
+    // Whatever the answer: home stays as it reads, and may become durable.
     ensures moments { EachMoment (IsMakeMoment (D.state device.old).shape measures.now.log_blocks measures.now.uuid measures.now.wide (D.state device.old).disk) (D.state device.old) (D.state device.new) }
 {
     match make_log(measures, device) {
@@ -50,7 +50,7 @@ pub fn format<D: Device, W: Write + Drop, E: Write + Drop>(
     }
 }
 
-/// Makes an empty log, and makes home durable.
+/// Makes an empty log, then makes home durable.
 fn make_log<D: Device>(measures: &Measures, device: &mut D) -> Result<(), Fault>
     ensures made { OnOk result (IsMade measures.now.log_blocks measures.now.uuid measures.now.wide (D.state device.old) (D.state device.new)) }
     ensures moments { EachMoment (IsMakeMoment (D.state device.old).shape measures.now.log_blocks measures.now.uuid measures.now.wide (D.state device.old).disk) (D.state device.old) (D.state device.new) }
@@ -62,7 +62,6 @@ fn make_log<D: Device>(measures: &Measures, device: &mut D) -> Result<(), Fault>
     }
 }
 
-/// Says what was made.
 fn say_made<W: Write + Drop>(measures: &Measures, mut out: W) -> Result<(), Fault> {
     writeln!(
         out,
@@ -72,12 +71,11 @@ fn say_made<W: Write + Drop>(measures: &Measures, mut out: W) -> Result<(), Faul
     .map_err(Fault::from)
 }
 
-/// Prints the log of a device. `path` names its file. Where the log is refused nothing is printed, and lines on `err` say
-/// why.
+/// Prints a device's log. `path` names its file. Lines on `err` say why the log is refused.
 ///
 /// # Errors
 ///
-/// The output can't be written.
+/// The output could not be written.
 pub fn dump<D: Device, W: Write + Drop, E: Write + Drop>(
     alloc: Global,
     path: &str,
@@ -96,7 +94,7 @@ pub fn dump<D: Device, W: Write + Drop, E: Write + Drop>(
     }
 }
 
-/// Prints the log of a device.
+/// Prints a device's log.
 fn dump_device<D: Device, W: Write + Drop>(
     alloc: Global,
     device: &mut D,
@@ -111,13 +109,13 @@ fn dump_device<D: Device, W: Write + Drop>(
     Ok(())
 }
 
-/// Opens the log of a device, which brings home what its complete transactions copied and leaves the log clean, and prints what
-/// was found. `path` names the log's file. Where the log is refused one line on `err` says why, and a second one where home is too
-/// short for it. `watch` is told of each read and write, and of their end before anything is said. The device comes back.
+/// Opens a device's log: its complete transactions go home, it is left clean, and the report is printed. `path` names its file. Lines on
+/// `err` say why it is refused, also for a home area that is too short. `watch` learns of each read and write, and of their end before
+/// anything is printed. The device comes back.
 ///
 /// # Errors
 ///
-/// The output can't be written.
+/// The output could not be written.
 pub fn recover<D: Device + Drop, H: Watch + Drop, W: Write, E: Write + Drop>(
     alloc: Global,
     path: &str,
@@ -127,10 +125,9 @@ pub fn recover<D: Device + Drop, H: Watch + Drop, W: Write, E: Write + Drop>(
     err: E,
 ) -> io::Result<(Status, D)>
     ensures recovered { IfOk result (λ done. done.0 ≡ Fine → D.honest done.1 → IsRecovered (D.state device) (D.state done.1)) }
-    // The line is that of what was found.
     ensures says { IfOk result (λ done. done.0 ≡ Fine → SaysOpened (D.honest done.1) (D.state device) (D.state done.1) (W.contents out.old) (W.contents out.new)) }
     ensures refused { IfOk result (λ done. done.0 ≢ Fine → (done.0 ≡ Refused) × IsRefusedBy OpeningRefused D.state D.honest (D.state device) done.1) }
-    // In each case, each moment is one of an opening: nothing else was written.
+    // Whatever the answer: each moment is one of an opening.
     ensures moments { IfOk result (λ done. D.honest done.1 → EachMoment (IsMoment (D.state device).shape (D.state device).disk) (D.state device) (D.state done.1)) }
 {
     let mut err = err;
@@ -148,7 +145,7 @@ pub fn recover<D: Device + Drop, H: Watch + Drop, W: Write, E: Write + Drop>(
     }
 }
 
-/// Opens the log of a device. `watch` is told of each read and write, and then of their end.
+/// Opens a device's log. `watch` learns of each read and write, then of their end.
 fn open_watched<D: Device + Drop, H: Watch + Drop>(
     alloc: Global,
     device: D,
@@ -177,12 +174,11 @@ fn open_watched<D: Device + Drop, H: Watch + Drop>(
     }
 }
 
-/// Gives the empty log of a device block numbers of 64 bits, and prints its sequence. `path` names the log's file. Where the log is
-/// refused one line on `err` says why.
+/// Gives a device's empty log 64-bit block numbers, and prints its sequence. `path` names its file. A line on `err` says why it is refused.
 ///
 /// # Errors
 ///
-/// The output can't be written.
+/// The output could not be written.
 pub fn upgrade<D: Device, W: Write + Drop, E: Write + Drop>(
     alloc: Global,
     path: &str,
@@ -192,14 +188,14 @@ pub fn upgrade<D: Device, W: Write + Drop, E: Write + Drop>(
 ) -> io::Result<Status>
     ensures upgraded { IfOk result (λ status. status ≡ Fine → D.honest device.new → HasUpgraded (D.state device.old) (D.state device.new)) }
     ensures other { IfOk result (λ status. status ≢ Fine → status ≡ Refused) }
-    // Whatever the answer is: nothing else was written, and in this order.
+    // Whatever the answer: nothing else was written, and only in this order.
     ensures left { D.honest device.new → IsUpgradeLeft (D.state device.old) (D.state device.new) }
     ensures moments { D.honest device.new → EachMoment (IsUpgradeMoment (D.state device.old).shape (D.state device.old).disk) (D.state device.old) (D.state device.new) }
 {
     end(path, upgrade_device(alloc, device, out), err)
 }
 
-/// Gives the empty log of a device block numbers of 64 bits, and says so.
+/// Gives a device's empty log 64-bit block numbers, and prints that.
 fn upgrade_device<D: Device, W: Write + Drop>(
     alloc: Global,
     device: &mut D,
@@ -215,11 +211,11 @@ fn upgrade_device<D: Device, W: Write + Drop>(
     Ok(())
 }
 
-/// Says why the log of a device is refused. `path` names its file. The command is then refused.
+/// Prints why a device's log is refused, and answers `Refused`. `path` names its file.
 ///
 /// # Errors
 ///
-/// The lines can't be written.
+/// The lines could not be written.
 pub fn refuse<D: Device>(
     alloc: Global,
     path: &str,
@@ -235,12 +231,11 @@ pub fn refuse<D: Device>(
     Ok(status)
 }
 
-/// Says why a command over the log of a device can't go on, but of output that can't be written. `path` names its file. The command is
-/// then refused.
+/// Prints why a command on a device's log cannot go on, and answers `Refused`. `path` names its file.
 ///
 /// # Errors
 ///
-/// The output, or the lines, can't be written.
+/// The fault is one of output, or the lines could not be written.
 pub(crate) fn refuse_fault<D: Device>(
     alloc: Global,
     path: &str,
@@ -258,7 +253,7 @@ pub(crate) fn refuse_fault<D: Device>(
     }
 }
 
-/// Says what an opening found.
+/// Prints an opening's report and next number.
 pub fn say_opened<W: Write>(report: Report, next: Tid, out: &mut W) -> Result<(), Fault>
     ensures { OnOk result (Appends (W.contents out.old) (W.contents out.new) (opened_line report.clean report.ends_at report.transactions next)) }
 {
@@ -266,7 +261,7 @@ pub fn say_opened<W: Write>(report: Report, next: Tid, out: &mut W) -> Result<()
     Ok(())
 }
 
-/// Writes the line of an opening behind which the log is left, as `recover` does.
+/// Writes the line of `recover`, whose log stays for a later opening.
 fn write_recovered<W: Write>(report: Report, next: Tid, out: &mut W) -> io::Result<()>
     ensures { OnOk result (Appends (W.contents out.old) (W.contents out.new) (recovered_line report.clean report.ends_at report.transactions next)) }
 {
@@ -277,7 +272,7 @@ fn write_recovered<W: Write>(report: Report, next: Tid, out: &mut W) -> io::Resu
     }
 }
 
-/// Writes the line of an opening behind which the log is left: `is_written` tells whether the next number was written into it.
+/// Writes the line of an opening whose log stays for a later one; `is_written`: it wrote the next number into the log.
 pub(crate) fn write_left<W: Write>(
     report: Report,
     is_written: bool,
@@ -293,7 +288,7 @@ pub(crate) fn write_left<W: Write>(
     }
 }
 
-/// Writes the line of an opening behind which no number is left.
+/// Writes the line of an opening that leaves no number.
 fn write_none<W: Write>(report: Report, out: &mut W) -> io::Result<()>
     ensures { OnOk result (Appends (W.contents out.old) (W.contents out.new) (none_line report.clean report.ends_at report.transactions)) }
 {
@@ -308,14 +303,14 @@ fn write_none<W: Write>(report: Report, out: &mut W) -> io::Result<()>
     }
 }
 
-/// Whether the next opening of a log finds no number above this one, which was written into it or not.
+/// Whether the next opening finds no number above this one, written into the log or not.
 pub(crate) fn is_last(is_written: bool, next: Tid) -> bool
     ensures { result ≡ (is_written && not (nat_lt next greatest_number)) }
 {
     is_written && next.0 >= GREATEST_NUMBER
 }
 
-/// Says what to do where the next opening of a log finds no number above this one.
+/// Says what to do if the next opening finds no number above this one.
 pub(crate) fn say_last(is_written: bool, next: Tid, err: &mut impl Write) -> io::Result<()> {
     if is_last(is_written, next) {
         writeln!(
@@ -327,7 +322,7 @@ pub(crate) fn say_last(is_written: bool, next: Tid, err: &mut impl Write) -> io:
     }
 }
 
-/// Writes the line of an opening.
+/// Writes an opening's line.
 pub(crate) fn write_opened<W: Write>(report: Report, next: Tid, out: &mut W) -> io::Result<()>
     ensures { OnOk result (Appends (W.contents out.old) (W.contents out.new) (opened_line report.clean report.ends_at report.transactions next)) }
 {
@@ -342,7 +337,7 @@ pub(crate) fn write_opened<W: Write>(report: Report, next: Tid, out: &mut W) -> 
     }
 }
 
-/// How a command ends, and the line that says why it couldn't go on.
+/// A command's status; writes why it could not go on.
 pub(crate) fn end<E: Write + Drop>(
     path: &str,
     done: Result<(), Fault>,

@@ -1,4 +1,4 @@
-//! What a log holds that is about to be overwritten.
+//! Says what a log holds that will be overwritten.
 ghost use Rattle.block_device.specs.State.{Stays};
 
 use block_device::Device;
@@ -9,24 +9,23 @@ use std::alloc::Global;
 use std::io;
 use std::io::{ErrorKind, Write};
 
-/// What stands in a log that is about to be overwritten.
+/// The content of a log's place.
 #[derive(Clone, Copy)]
 enum Standing {
     /// No log.
     NoLog,
-    /// A log of which all is home.
+    /// A log whose transactions are all home.
     Clean,
-    /// A log whose complete transactions are not home: so many, and where a malformed block ends them its place.
+    /// A log with complete transactions that are not home.
     NotHome(ChainEnd),
 }
 
-/// Says that the log of a device is about to be overwritten, and what it holds: a log with so many transactions that are not home, a
-/// clean one, one that is refused, or none. `path` names its file. Nothing is said where it can't be read. The device is read, and stays
-/// as it was.
+/// Says that a device's log will be overwritten, and what it is: transactions that are not home, a clean log, one that is refused, or none.
+/// `path` names its file. If it cannot be read, nothing is printed.
 ///
 /// # Errors
 ///
-/// The line can't be written, or memory ran out.
+/// The line could not be written, or memory ran out.
 pub fn say_overwritten<D: Device>(
     alloc: Global,
     path: &str,
@@ -47,7 +46,7 @@ pub fn say_overwritten<D: Device>(
     }
 }
 
-/// What stands in the log of a device.
+/// The content of a device's log area.
 fn standing_in<D: Device>(alloc: Global, device: &mut D) -> Result<Standing, JournalError>
     ensures { Stays (D.state device.old) (D.state device.new) }
 {
@@ -71,7 +70,6 @@ fn standing_in<D: Device>(alloc: Global, device: &mut D) -> Result<Standing, Jou
     }
 }
 
-/// Says what was found.
 fn say_standing(path: &str, standing: Standing, err: &mut impl Write) -> io::Result<()> {
     match standing {
         Standing::NoLog => writeln!(err, "jbench: overwrites {path}: it held no log"),

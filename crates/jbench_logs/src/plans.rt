@@ -1,4 +1,4 @@
-//! The command `recover --dry-run`, over devices: says what an opening would do, and writes nothing.
+//! The command `recover --dry-run`, over devices: says what an opening would do.
 ghost use Rattle.std.specs.Prelude.{◌≡◌, ◌≢◌, IfErr, IfOk, true, false};
 ghost use Rattle.block_device.specs.Call.{OnlyReads};
 ghost use Rattle.block_device.specs.State.{Stays};
@@ -23,26 +23,25 @@ use std::io::Write;
 /// What an opening would do.
 #[derive(Drop)]
 pub struct Planned {
-    /// What it would find, and which blocks and numbers.
+    /// Its report, home blocks and next number.
     pub plan: Plan,
-    /// What it would open the log in spite of, where there is something.
+    /// The refusal of a plain opening, if any.
     pub stopped_by: Option<JournalError>,
 }
 
 impl Planned {
-    /// Whether the opening would write the number of the next transaction into the log.
+    /// Whether the opening would write the next number into the log.
     fn writes_number(&self) -> bool {
         is_number_written(self.plan.report, self.stopped_by)
     }
 }
 
-/// Prints what these words of `recover` would do to the log of a device, in the words of `recover` and with the count of home blocks
-/// that would be written. Where the log is refused one line on `err` says why, as there. The device is read alone, and stays as it was;
-/// it comes back. `watch` is told of each read, and of their end before anything is said.
+/// Prints what `recover` with these words would do to a device's log, and the count of home blocks that it would write. A line on `err`
+/// says why the log is refused. `watch` learns of each read, and of their end before anything is printed. The device comes back.
 ///
 /// # Errors
 ///
-/// The output can't be written.
+/// The output could not be written.
 pub fn plan<D: Device + Drop, H: Watch + Drop, W: Write, E: Write + Drop>(
     alloc: Global,
     words: &RecoverWords<'_>,
@@ -72,7 +71,7 @@ pub fn plan<D: Device + Drop, H: Watch + Drop, W: Write, E: Write + Drop>(
     }
 }
 
-/// Finds out what an opening would do. `watch` is told of each read, and then of their end.
+/// Finds out what an opening would do. `watch` learns of each read, then of their end.
 fn plan_watched<D: Device + Drop, H: Watch + Drop>(
     alloc: Global,
     before_damage: bool,
@@ -90,7 +89,7 @@ fn plan_watched<D: Device + Drop, H: Watch + Drop>(
     (device, planned)
 }
 
-/// What an opening would do to the log of a device.
+/// What an opening would do to a device's log.
 fn plan_of<D: Device>(
     alloc: Global,
     before_damage: bool,
@@ -111,7 +110,7 @@ fn plan_of<D: Device>(
     })
 }
 
-/// Says what an opening would do, and where it would be stopped by a home area that is too short, that it would.
+/// Prints what an opening would do, and whether a home area that is too short would stop it.
 fn say_plan<D: Device, W: Write>(
     alloc: Global,
     device: &mut D,
@@ -127,7 +126,6 @@ fn say_plan<D: Device, W: Write>(
     Ok(())
 }
 
-/// Says what was planned.
 fn say_planned(planned: &Planned, out: &mut impl Write) -> io::Result<()> {
     let Plan {
         report,

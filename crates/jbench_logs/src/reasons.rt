@@ -1,4 +1,4 @@
-//! Why a log is refused, where its refusal does not say it: a home area that is too short for the log, or a file that is.
+//! Explains refusals that come of a home area or a log file that is too short.
 ghost use Rattle.std.specs.Prelude.{◌≡◌, length};
 ghost use Rattle.block_device.specs.Call.{OnlyReads};
 
@@ -15,12 +15,12 @@ use std::io::Write;
 /// Bytes of a superblock.
 pub(crate) const SUPER_BYTES: usize = 1024;
 
-/// Says behind the line of a refusal where it comes of a home area that lacks a block which the log names, or of a log whose file is
-/// shorter than it. Where that can't be found out, nothing is said.
+/// After a refusal's line, says if the home area lacks a block that the log names, or the log's file is too short. If that cannot be found
+/// out, it says nothing.
 ///
 /// # Errors
 ///
-/// The line can't be written.
+/// The line could not be written.
 pub(crate) fn say_why<D: Device>(
     alloc: Global,
     device: &mut D,
@@ -36,7 +36,7 @@ pub(crate) fn say_why<D: Device>(
     }
 }
 
-/// Says where the block at this place is damaged that it names a home block which is not there.
+/// Says if the block at this place is damaged because it names a missing home block.
 fn say_short_home<D: Device>(
     alloc: Global,
     device: &mut D,
@@ -55,7 +55,7 @@ fn say_short_home<D: Device>(
     }
 }
 
-/// Says how many blocks a log has, and how many its superblock says.
+/// Says how many blocks a log has, and how many its superblock requires.
 fn say_short_log<D: Device>(alloc: Global, device: &mut D, err: &mut impl Write) -> io::Result<()>
     ensures device { OnlyReads D.state D.honest device.old device.new }
 {
@@ -71,8 +71,8 @@ fn say_short_log<D: Device>(alloc: Global, device: &mut D, err: &mut impl Write)
     }
 }
 
-/// Whether the block at this place is damaged for no other cause than a number of a home block: where home is not looked at, the
-/// chain does not end there by damage.
+/// Whether the block at this place is damaged only by a home block's number: without a limit on these, the chain does not end there by
+/// damage.
 fn is_whole_without_home<D: Device>(
     alloc: Global,
     device: &mut D,

@@ -1,4 +1,4 @@
-//! The command `recover`, as its words tell, over devices.
+//! The command `recover` over devices: picks the opening that its words ask for.
 ghost use Rattle.std.specs.Prelude.{◌≡◌, ◌≢◌, IfOk, false, true};
 ghost use Rattle.block_device.specs.State.{EachMoment, Stays};
 ghost use Rattle.jbench_words.specs.declared.fault.Status.TheVariants.{Fine, Refused};
@@ -14,12 +14,12 @@ use std::alloc::Global;
 use std::io;
 use std::io::Write;
 
-/// Opens the log of a device, or opens it in spite of a damaged block or of one that is ahead, or says what either would do: the one of
-/// these that the words tell. `watch` is told of each read and write, and of their end before anything is said. The device comes back.
+/// Opens a device's log, opens it even if it is damaged or ahead, or says what either would do, as the words ask. `watch` learns of each
+/// read and write, and of their end before anything is printed. The device comes back.
 ///
 /// # Errors
 ///
-/// The output can't be written.
+/// The output could not be written.
 pub fn recover<D: Device + Drop, H: Watch + Drop, W: Write, E: Write + Drop>(
     alloc: Global,
     words: &RecoverWords<'_>,
@@ -47,7 +47,7 @@ pub fn recover<D: Device + Drop, H: Watch + Drop, W: Write, E: Write + Drop>(
     recover_as(alloc, words, device, watch, out, err)
 }
 
-/// Opens the log of a device, in spite of a damaged block or of one that is ahead where the words tell.
+/// Opens a device's log, even if it is damaged or ahead when the words ask for that.
 fn recover_as<D: Device + Drop, H: Watch + Drop, W: Write, E: Write + Drop>(
     alloc: Global,
     words: &RecoverWords<'_>,

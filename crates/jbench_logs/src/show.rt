@@ -1,5 +1,5 @@
-//! The command `show`: every field of a superblock by its name, whatever its value is, with the test that it fails; and below, whether
-//! an opening takes it, and what keeps it from a log of another maker.
+//! The command `show`: each superblock field by name with the test that it fails, then whether an opening accepts the superblock, and an
+//! owner's ways out.
 ghost use Rattle.std.specs.Prelude.{◌≡◌, ◌≢◌, ◌+◌, ◌≤◌, length, IfOk};
 ghost use Rattle.block_device.specs.State.{Stays};
 ghost use Rattle.jbench_words.specs.declared.fault.Status.TheVariants.{Fine, Refused};
@@ -25,7 +25,7 @@ use std::{fmt, io};
 /// The fewest blocks of a ring.
 const LEAST_RING: u32 = 16;
 
-/// Bytes, which are written in hex digits.
+/// Bytes that print as hex.
 #[derive(Clone, Copy)]
 struct Hex<'a>(&'a [u8]);
 
@@ -38,12 +38,12 @@ impl fmt::Display for Hex<'_> {
     }
 }
 
-/// Prints the superblock of the log of a device, whether an opening takes it, and where one does how much of the ring is used. `path` names the log's file. The device is read, and
-/// stays as it was. Where the log has no whole block, or it can't be read, nothing is printed, and lines on `err` say so.
+/// Prints the superblock of a device's log, whether an opening accepts it, and, if so, the use of the ring. `path` names the log's file.
+/// Lines on `err` say that the log has no whole block, or cannot be read.
 ///
 /// # Errors
 ///
-/// The output can't be written.
+/// The output could not be written.
 pub fn show<D: Device, W: Write + Drop, E: Write + Drop>(
     alloc: Global,
     path: &str,
@@ -61,7 +61,7 @@ pub fn show<D: Device, W: Write + Drop, E: Write + Drop>(
     }
 }
 
-/// Prints the superblock of the log of a device, and how much of its ring is used.
+/// Prints the superblock of a device's log, and the use of its ring.
 fn show_device<D: Device, W: Write>(alloc: Global, device: &mut D, out: &mut W) -> Result<(), Fault>
     ensures { Stays (D.state device.old) (D.state device.new) }
 {
@@ -76,7 +76,7 @@ fn show_device<D: Device, W: Write>(alloc: Global, device: &mut D, out: &mut W) 
     show_ring(alloc, device, out)
 }
 
-/// Prints how much of the ring of a log is used, where its superblock is taken.
+/// Prints the use of a log's ring, if its superblock is accepted.
 fn show_ring<D: Device, W: Write>(alloc: Global, device: &mut D, out: &mut W) -> Result<(), Fault>
     ensures { Stays (D.state device.old) (D.state device.new) }
 {
@@ -90,7 +90,7 @@ fn show_ring<D: Device, W: Write>(alloc: Global, device: &mut D, out: &mut W) ->
     }
 }
 
-/// Says how many blocks of a ring are used and free, the oldest and the newest transaction there, and the damaged block after them.
+/// Prints a ring's used and free blocks, its oldest and newest transaction, and the damaged block after them.
 fn say_ring(ring: RingUse, out: &mut impl Write) -> io::Result<()> {
     let RingUse {
         blocks,
@@ -127,7 +127,7 @@ fn read_first<D: Device>(alloc: Global, device: &mut D) -> Result<Block, Journal
     read_block(alloc, device, Area::Log, 0)
 }
 
-/// Prints the superblock that a block of a log holds, which has so many of them, and what is to be done where this stands in its place.
+/// Prints the superblock in a block of a log with `blocks` blocks, and what to do if `standing` is in its place.
 fn show_superblock(
     bytes: &[u8],
     blocks: u64,
@@ -143,7 +143,7 @@ fn show_superblock(
     tell(bytes, blocks, standing, out)
 }
 
-/// Prints the fields that an opening reads, of a log in blocks of so many bytes, which has so many of them.
+/// Prints the fields that an opening reads, of a log with `blocks` blocks of `block_size` bytes.
 fn show_fields(
     fields: &Super,
     block_size: usize,
@@ -163,17 +163,17 @@ fn number(bytes: &[u8], at: usize) -> u32
     BigEndian::read_u32(&bytes[at..])
 }
 
-/// Prints a field that is a number.
+/// Prints a number field.
 fn show_number(out: &mut impl Write, name: &str, number: u32) -> io::Result<()> {
     writeln!(out, "{name} {number}")
 }
 
-/// Prints a field that is bytes.
+/// Prints a field of bytes.
 fn show_bytes(out: &mut impl Write, name: &str, bytes: &[u8]) -> io::Result<()> {
     writeln!(out, "{name} {}", Hex(bytes))
 }
 
-/// Says below a field that does not pass its test which refusal it comes to, and what is wanted of it.
+/// Below a field that fails its test, prints the refusal and what is wanted.
 fn say_test(out: &mut impl Write, passes: bool, e: JournalError, wanted: &str) -> io::Result<()> {
     if passes {
         Ok(())
@@ -182,7 +182,7 @@ fn say_test(out: &mut impl Write, passes: bool, e: JournalError, wanted: &str) -
     }
 }
 
-/// Prints the fields of the header.
+/// Prints the header's fields.
 fn show_header(bytes: &[u8], out: &mut impl Write) -> io::Result<()>
     requires { 1024 ≤ length bytes.now }
 {
@@ -204,7 +204,7 @@ fn show_header(bytes: &[u8], out: &mut impl Write) -> io::Result<()>
     show_number(out, "h_sequence", number(bytes, 8))
 }
 
-/// Prints the fields of lengths and places, of a log in blocks of so many bytes, which has so many of them.
+/// Prints the fields of lengths and places, of a log with `blocks` blocks of `block_size` bytes.
 fn show_lengths(
     fields: &Super,
     block_size: usize,
@@ -272,7 +272,7 @@ fn show_features(fields: &Super, out: &mut impl Write) -> io::Result<()> {
     say_test(out, read_only == 0, JournalError::BadFeature, "0")
 }
 
-/// Prints the field of incompatible features, which has these bits.
+/// Prints the field of incompatible features with these bits.
 fn show_incompatible(bits: u32, out: &mut impl Write) -> io::Result<()> {
     write_features(out, "s_feature_incompat", bits, &INCOMPATIBLE)?;
     say_test(
@@ -283,7 +283,7 @@ fn show_incompatible(bits: u32, out: &mut impl Write) -> io::Result<()> {
     )
 }
 
-/// Prints the UUID, and the count of users.
+/// Prints the UUID and the count of users.
 fn show_users(fields: &Super, out: &mut impl Write) -> io::Result<()> {
     show_bytes(out, "s_uuid", &fields.s_uuid)?;
     show_number(out, "s_nr_users", fields.s_nr_users)?;
@@ -295,7 +295,7 @@ fn show_users(fields: &Super, out: &mut impl Write) -> io::Result<()> {
     )
 }
 
-/// Prints the fields that nothing here reads.
+/// Prints the fields that the journal never reads.
 /// Source: journal.rst, "Super Block".
 fn show_rest(bytes: &[u8], out: &mut impl Write) -> io::Result<()>
     requires { 1024 ≤ length bytes.now }
@@ -306,7 +306,7 @@ fn show_rest(bytes: &[u8], out: &mut impl Write) -> io::Result<()>
     show_checksums(bytes, out)
 }
 
-/// Prints those of checksums, of fast commits and of users.
+/// Prints the fields of checksums, fast commits and users.
 /// Source: journal.rst, "Super Block".
 fn show_checksums(bytes: &[u8], out: &mut impl Write) -> io::Result<()>
     requires { 1024 ≤ length bytes.now }

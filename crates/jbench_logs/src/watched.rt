@@ -1,11 +1,11 @@
-//! A device that tells of its calls, so that whoever waits for a command can see how far it is.
+//! A device that reports its calls, so that a user sees a command's progress.
 ghost use Rattle.std.specs.Prelude.{◌≡◌, length, OnOk, OnErr};
 
 use block_device::{Device, DeviceFault};
 use jbench_words::watch::{Step, Watch};
 use journal_model::Area;
 
-/// A device each of whose calls is one of the device behind it, and is told of first.
+/// A device that reports each read and write before it passes the call on.
 #[derive(Drop)]
 pub struct Watched<D, W> {
     device: D,
@@ -13,14 +13,14 @@ pub struct Watched<D, W> {
 }
 
 impl<D: Drop, W> Watched<D, W> {
-    /// A device that tells `watch` of its reads and writes.
+    /// A device that reports its reads and writes to `watch`.
     pub fn new(device: D, watch: W) -> Self
         ensures { result ≡ record { device = device; watch = watch } }
     {
         Watched { device, watch }
     }
 
-    /// The device, and who was told of the calls.
+    /// The inner device and the watch.
     pub fn into_parts(self) -> (D, W)
         ensures { result ≡ (self.device, self.watch) }
     {

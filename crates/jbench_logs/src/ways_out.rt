@@ -1,4 +1,4 @@
-//! What the owner of a log can do where an opening refuses it: by what stands in the place of its superblock, and by what that says.
+//! What an owner can do about a refused log, by the content of the superblock's place.
 ghost use Rattle.std.specs.Prelude.{◌≡◌, ◌≤◌, length};
 ghost use Rattle.block_device.specs.State.{Stays};
 
@@ -13,16 +13,15 @@ use std::alloc::Global;
 use std::io;
 use std::io::Write;
 
-/// Where ext2, ext3 and ext4 have the magic of their superblock, which has two bytes.
+/// The place of the two-byte magic of ext2, ext3 and ext4 volumes.
 const VOLUME_PLACE: usize = 0x438;
 
-/// Those bytes.
 const VOLUME_MAGIC: [u8; 2] = [0x53, 0xef];
 
-/// What stands in the place of a superblock.
+/// The content of the superblock's place.
 #[derive(Clone, Copy)]
 pub(crate) enum Standing {
-    /// A block that begins with the magic of a log.
+    /// A block that begins with a log's magic.
     Superblock,
     /// The beginning of a volume with a file system.
     Volume,
@@ -32,11 +31,11 @@ pub(crate) enum Standing {
     Other,
 }
 
-/// What stands in the log of a device, whose block 0 has these bytes.
+/// The content of a device's log area, whose block 0 has these bytes.
 ///
 /// # Errors
 ///
-/// `Device`, `Memory`: block 1 can't be read.
+/// `Device`, `Memory`: block 1 could not be read.
 pub(crate) fn standing_of<D: Device>(
     alloc: Global,
     device: &mut D,
@@ -57,7 +56,7 @@ pub(crate) fn standing_of<D: Device>(
     }
 }
 
-/// Whether a log area, whose block 0 has these bytes, begins as a volume with a file system.
+/// Whether a log area, whose block 0 has these bytes, begins like a volume with a file system.
 fn begins_volume<D: Device>(
     alloc: Global,
     device: &mut D,
@@ -76,7 +75,7 @@ fn begins_volume<D: Device>(
     Ok(has_volume_magic(second.bytes(), place))
 }
 
-/// Whether the magic of a file system stands at this place.
+/// Whether a file system's magic is at this place.
 fn has_volume_magic(bytes: &[u8], place: usize) -> bool {
     match bytes.get(place..) {
         Some(rest) => rest.starts_with(&VOLUME_MAGIC),
@@ -84,8 +83,8 @@ fn has_volume_magic(bytes: &[u8], place: usize) -> bool {
     }
 }
 
-/// Says whether an opening takes the superblock in these bytes, in whose place this stands, and where it does not, what an owner of the
-/// log can do about it. The log has so many blocks.
+/// Says whether an opening accepts these superblock bytes and, if not, what the owner can do. `standing` is in the superblock's place; the
+/// log has `blocks` blocks.
 pub(crate) fn tell(
     bytes: &[u8],
     blocks: u64,
@@ -107,7 +106,7 @@ pub(crate) fn tell(
     }
 }
 
-/// Says that an opening takes a superblock with these fields, and whether it has a number for a further transaction then.
+/// Says that an opening accepts these fields, and whether it then has a number for another transaction.
 fn tell_taken(fields: &Super, out: &mut impl Write) -> io::Result<()> {
     if fields.s_sequence < GREATEST_NUMBER {
         return writeln!(out, "an opening takes this superblock");
@@ -129,7 +128,7 @@ fn tell_taken(fields: &Super, out: &mut impl Write) -> io::Result<()> {
     }
 }
 
-/// Says what an owner of a log can do whose superblock is refused for this cause.
+/// Says what the owner can do about this refusal.
 fn tell_way_out(
     bytes: &[u8],
     blocks: u64,
@@ -156,7 +155,7 @@ fn tell_way_out(
     }
 }
 
-/// Says what an owner of a log can do whose superblock begins with the magic, and is refused for this cause.
+/// Says what the owner can do about this refusal of a superblock with the magic.
 fn tell_of_superblock(
     bytes: &[u8],
     blocks: u64,
@@ -179,7 +178,7 @@ fn tell_of_superblock(
     }
 }
 
-/// Says how long a log is and is to be, where its file is too short.
+/// Says how long a log is and must be, if its file is too short.
 pub(crate) fn say_length(fields: &Super, blocks: u64, out: &mut impl Write) -> io::Result<()> {
     let length = fields.s_maxlen;
     if !(LEAST_LENGTH..=GREATEST_LENGTH).contains(&length) || u64::from(length) <= blocks {
@@ -192,7 +191,7 @@ pub(crate) fn say_length(fields: &Super, blocks: u64, out: &mut impl Write) -> i
     )
 }
 
-/// Says of each feature that keeps an opening from a log what its owner does about it.
+/// Says for each feature that prevents an opening what its owner does about it.
 fn tell_features(fields: &Super, out: &mut impl Write) -> io::Result<()> {
     write_ways_out(out, fields.s_feature_compat, 0, &COMPATIBLE)?;
     let taken = REVOKE | WIDE_NUMBERS;

@@ -5,11 +5,11 @@ use Rattle.file_device.specs.Files.{FileContents}
 use Rattle.jbench_words.specs.declared.fault.Status.{Status}
 use Rattle.jbench_words.specs.declared.fault.Status.TheVariants.{Fine, VerdictFalse}
 use Rattle.jbench_words.specs.declared.words.Words.{Words}
-use Rattle.jbench_words.specs.declared.words.Words.TheVariants.{Run, Sweep, Check, Threads, Format, Dump, Cat, Show, Recover, Upgrade, Apply, Bench, Completions, Man}
+use Rattle.jbench_words.specs.declared.words.Words.TheVariants.{Run, Sweep, Check, Threads, Format, Dump, Cat, Show, Recover, Upgrade, Apply, Bench, Serve, Completions, Man}
 use Rattle.jbench_commands.specs.Obeying.{TextReads, HasFoundWrong as HasFoundWrongAlone, HasObeyed as HasObeyedAlone}
 use Rattle.jbench_threads.specs.Obeying.{HasFoundWrong, HasObeyed}
 
--- what it did alone is what was done
+-- what it did alone was done
 pub obeyed : (first : FileContents) (reads : TextReads) (contents : Option (List ℕ)) (words : Words) → HasObeyedAlone first reads contents words → HasObeyed first reads contents words
 obeyed first reads contents (Run words) did = did
 obeyed first reads contents (Sweep words) did = did
@@ -23,10 +23,11 @@ obeyed first reads contents (Recover words) did = did
 obeyed first reads contents (Upgrade path) did = did
 obeyed first reads contents (Apply words) did = did
 obeyed first reads contents (Bench words) did = absurd did
+obeyed first reads contents (Serve words) did = absurd did
 obeyed first reads contents (Completions shell) did = did
 obeyed first reads contents Man did = did
 
--- what it found alone is what was found
+-- what it found wrong alone was found wrong
 pub found-wrong : (reads : TextReads) (words : Words) → HasFoundWrongAlone words → HasFoundWrong reads words
 found-wrong reads (Run words) found = found
 found-wrong reads (Sweep words) found = found
@@ -40,10 +41,11 @@ found-wrong reads (Recover words) found = found
 found-wrong reads (Upgrade path) found = found
 found-wrong reads (Apply words) found = found
 found-wrong reads (Bench words) found = found
+found-wrong reads (Serve words) found = found
 found-wrong reads (Completions shell) found = found
 found-wrong reads Man found = found
 
--- of a status
+-- by its status
 pub done-alone : {E : Type 0} (first : FileContents) (reads : TextReads) (contents : Option (List ℕ)) (words : Words) (end : Result Status E) →
     IfOk end (λ status. status ≡ Fine → HasObeyedAlone first reads contents words) → IfOk end (λ status. status ≡ Fine → HasObeyed first reads contents words)
 done-alone first reads contents words (Ok status) did = λ fine. obeyed first reads contents words (did fine)

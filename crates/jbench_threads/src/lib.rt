@@ -1,5 +1,5 @@
-//! Which command does what the program's words tell: those that start threads, `threads` and `bench`, are called here, and the others
-//! by `jbench_commands`.
+//! Runs the command that the words name: `threads`, `bench` and `serve` here, which start threads, the others by `jbench_commands`.
 #![tactic(auto)]
 
 pub mod obeying;
+mod serving;

@@ -1,28 +1,31 @@
-//! Does what the words tell, with threads for the commands that want them.
+//! Runs the command that the words name, in threads if it wants them.
 ghost use Rattle.std.specs.Prelude.{◌≡◌, ◌≢◌, ◌↔◌, IfOk, IfSome, IsSome};
 ghost use Rattle.jbench_words.specs.declared.fault.Status.TheVariants.{Fine, Refused, VerdictFalse};
 ghost use Rattle.jbench_commands.specs.Obeying.{IsOfText};
-ghost use Rattle.jbench_threads.specs.Obeying.{HasFoundWrong, HasObeyed, IsBenchDone, IsBenchLeft};
+ghost use Rattle.jbench_threads.specs.Obeying.{HasFoundWrong, HasObeyed, IsClosedDone, IsClosedLeft};
 ghost use Rattle.script_threads.specs.Runs.{HasFoundFalse, HasServed};
 
+use crate::serving;
 use commit_times::{bench, threads as timed};
 use file_device::{Contents, FileDevice};
 use jbench_commands::obeying as alone;
 use jbench_commands::progress::Progress;
-use jbench_files::{Text, device_of, open_pair, open_text};
+use jbench_files::{Text, device_of, open_pair_within, open_text};
 use jbench_words::fault::{Status, refuse_file};
-use jbench_words::words::{BenchWords, Words};
+use jbench_words::words::{BenchWords, ServeWords, Words};
 use std::io;
-use std::io::{Read, Write};
+use std::io::{BufReader, Read, Write};
 use std::sync::Wait;
 use std::thread::Threads;
 
-/// Does what the words tell, with threads for the clients of a script and of `bench`: only these wait for one another. `contents` says
-/// what is supposed of the files of a log.
+/// Bytes that `serve` reads ahead.
+const AHEAD: usize = 65_536;
+
+/// Runs the command that the words name. `contents` is what the files of a log are assumed to hold.
 ///
 /// # Errors
 ///
-/// What the command prints can't be written, or memory ran out.
+/// The output could not be written, or memory ran out.
 pub fn obey<T: Threads + Wait + Sync, C: Contents + Send, W: Write + Drop, E: Write + Drop>(
     rt: &HostRuntime,
     threads: &T,
@@ -37,11 +40,12 @@ pub fn obey<T: Threads + Wait + Sync, C: Contents + Send, W: Write + Drop, E: Wr
     match words {
         Words::Threads(path) => threads_file(rt, threads, path, out, err),
         Words::Bench(words) => bench_files(rt, threads, contents, words, out, err),
+        Words::Serve(words) => serve_files(rt, threads, contents, words, err),
         _ => obey_alone(rt, contents, words, out, err),
     }
 }
 
-/// Does what the words tell, without threads.
+/// Runs a command that starts no threads.
 fn obey_alone<C: Contents, W: Write + Drop, E: Write + Drop>(
     rt: &HostRuntime,
     contents: C,
@@ -55,7 +59,7 @@ fn obey_alone<C: Contents, W: Write + Drop, E: Write + Drop>(
     alone::obey(rt, contents, words, out, err)
 }
 
-/// Runs the clients of the script in a file in threads.
+/// Runs the clients of a script's file in threads.
 fn threads_file<T: Threads + Wait + Sync, W: Write + Drop, E: Write + Drop>(
     rt: &HostRuntime,
     threads: &T,
@@ -73,7 +77,7 @@ fn threads_file<T: Threads + Wait + Sync, W: Write + Drop, E: Write + Drop>(
     }
 }
 
-/// Commits transactions to a log in two files, both of which are opened before either is read.
+/// Commits transactions to a log in two files, and opens both before it reads one.
 fn bench_files<T: Threads + Wait + Sync, C: Contents + Send, W: Write + Drop, E: Write + Drop>(
     rt: &HostRuntime,
     threads: &T,
@@ -82,11 +86,11 @@ fn bench_files<T: Threads + Wait + Sync, C: Contents + Send, W: Write + Drop, E:
     out: W,
     err: E,
 ) -> io::Result<Status>
-    ensures done { IfOk result (λ status. status ≡ Fine → IsBenchDone C.contents) }
+    ensures done { IfOk result (λ status. status ≡ Fine → IsClosedDone C.contents) }
     ensures other { IfOk result (λ status. status ≢ Fine → status ≡ Refused) }
 {
     let mut err = err;
-    let files = match open_pair(rt, words.paths) {
+    let files = match open_pair_within(rt, words.paths, words.wait) {
         Ok(files) => files,
         Err(unopened) => return refuse_file(&mut err, unopened.path, unopened.error),
     };
@@ -99,7 +103,7 @@ fn bench_files<T: Threads + Wait + Sync, C: Contents + Send, W: Write + Drop, E:
     }
 }
 
-/// Commits transactions to the log on this device, by clients in threads of their own where the words tell of any.
+/// Commits transactions to a device's log, by clients in threads if the words ask for them.
 fn bench_device<T: Threads + Wait + Sync, C: Contents + Send, W: Write + Drop, E: Write + Drop>(
     rt: &HostRuntime,
     threads: &T,
@@ -108,7 +112,7 @@ fn bench_device<T: Threads + Wait + Sync, C: Contents + Send, W: Write + Drop, E
     out: W,
     err: E,
 ) -> io::Result<Option<FileDevice<C>>>
-    ensures { IfOk result (λ done. IfSome done (IsBenchLeft C.contents)) }
+    ensures { IfOk result (λ done. IfSome done (IsClosedLeft C.contents)) }
 {
     let (alloc, progress) = (rt.alloc(), Progress::new(rt));
     match words.threads {
@@ -119,7 +123,46 @@ fn bench_device<T: Threads + Wait + Sync, C: Contents + Send, W: Write + Drop, E
     }
 }
 
-/// How a command ended that answers what is left where all was done.
+/// Serves the home area of a log in two files over the standard streams, and opens both files before it reads one.
+fn serve_files<T: Threads + Wait + Sync, C: Contents + Send, E: Write + Drop>(
+    rt: &HostRuntime,
+    threads: &T,
+    contents: C,
+    words: &ServeWords<'_>,
+    err: E,
+) -> io::Result<Status>
+    ensures done { IfOk result (λ status. status ≡ Fine → IsClosedDone C.contents) }
+    ensures other { IfOk result (λ status. status ≢ Fine → status ≡ Refused) }
+{
+    let mut err = err;
+    let files = match open_pair_within(rt, words.paths, words.wait) {
+        Ok(files) => files,
+        Err(unopened) => return refuse_file(&mut err, unopened.path, unopened.error),
+    };
+    match device_of(rt.alloc(), contents, files) {
+        Ok(device) => {
+            let done = serve_device(rt, threads, words, device, &mut err)?;
+            Ok(status_of(&done))
+        }
+        Err(e) => refuse_file(&mut err, words.paths.log, e),
+    }
+}
+
+/// Serves the home area of a device's log over the standard streams.
+fn serve_device<T: Threads + Wait + Sync, C: Contents + Send, E: Write>(
+    rt: &HostRuntime,
+    threads: &T,
+    words: &ServeWords<'_>,
+    device: FileDevice<C>,
+    err: &mut E,
+) -> io::Result<Option<FileDevice<C>>>
+    ensures { IfOk result (λ done. IfSome done (IsClosedLeft C.contents)) }
+{
+    let input = BufReader::with_capacity(rt.alloc(), AHEAD, rt.stdin())?;
+    serving::serve(threads, rt.alloc(), words, device, input, rt.stdout(), err)
+}
+
+/// The status of a command that answers something only if all was done.
 fn status_of<T>(done: &Option<T>) -> Status
     ensures fine { result ≡ Fine ↔ IsSome done.now }
     ensures other { result ≢ Fine → result ≡ Refused }

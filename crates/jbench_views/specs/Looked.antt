@@ -12,16 +12,16 @@ use Rattle.log_views.specs.Leaving.{IsLeftIn}
 abbrev pub HasCopyAt : (place : ℕ) → DeviceState → Type 0
 HasCopyAt place s = (bytes : List ℕ) × IsCopyIn (super_of (reading s.disk)) (reading s.disk) place bytes
 
--- what `dump` found: the whole log, or the copy at the place that it was told
+-- `dump` found the whole log, or the copy at the given place
 abbrev pub HasDumped : (copy : Option ℕ) → DeviceState → Type 0
 HasDumped None s = HasDump (shape_of s) (reading s.disk)
 HasDumped (Some place) s = HasCopyAt place s
 
--- an opening leaves some bytes in this block of the home area
+-- an opening leaves some bytes in this home block
 abbrev pub HasLeft : (block : ℕ) → DeviceState → Type 0
 HasLeft block s = (bytes : List ℕ) × IsLeftIn s block bytes
 
--- and these were printed: where reads were honest, they are what an opening leaves
+-- some bytes were printed; if reads were correct, an opening leaves them in this home block
 pub record PrintsLeft (block : ℕ) (s : DeviceState) (honest : Type 0) (old new : Option (List ℕ)) : Type 0 where
   pub bytes : List ℕ
   pub written : Appends old new bytes

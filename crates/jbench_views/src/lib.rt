@@ -1,4 +1,4 @@
-//! The commands that look something up in a log, over devices: `dump` with its options, and `cat`. Nothing is written.
+//! The commands that look something up in a log, over devices: `dump` with its options, and `cat`.
 #![tactic(auto)]
 
 mod printing;

@@ -1,4 +1,4 @@
-//! What is looked up in a log is printed.
+//! Prints what is looked up in a log.
 ghost use Rattle.std.specs.Prelude.{◌≡◌, ◌≢◌, IfOk, None};
 ghost use Rattle.journal_model.specs.Disk.{reading};
 ghost use Rattle.block_device.specs.State.{Stays};
@@ -17,16 +17,15 @@ use std::alloc::Global;
 use std::io;
 use std::io::{BufWriter, Write};
 
-/// Bytes of a line in hex.
+/// Bytes of a line of hex.
 const LINE: usize = 32;
 
-/// Prints the log of a device, where the words tell so up to a damaged block; or the bytes of one copy in hex, 32 on a line. Where the log
-/// is refused, or has no such copy, lines on `err` say why; nothing is printed then, but for the lines before a damaged block. The device
-/// is read, and stays as it was.
+/// Prints a device's log, up to a damaged block if the words ask for it; or the bytes of one copy in hex, 32 a line. Lines on `err` say why
+/// the log is refused, or that it has no such copy.
 ///
 /// # Errors
 ///
-/// The output can't be written.
+/// The output could not be written.
 pub fn dump<D: Device, W: Write + Drop, E: Write + Drop>(
     alloc: Global,
     words: &DumpWords<'_>,
@@ -48,7 +47,7 @@ pub fn dump<D: Device, W: Write + Drop, E: Write + Drop>(
     }
 }
 
-/// Prints the copy at a place of the log of a device.
+/// Prints the copy at a place of a device's log.
 fn dump_copy<D: Device, W: Write + Drop, E: Write + Drop>(
     alloc: Global,
     path: &str,
@@ -78,7 +77,7 @@ fn dump_copy<D: Device, W: Write + Drop, E: Write + Drop>(
     }
 }
 
-/// Writes bytes in hex digits, so many on a line.
+/// Writes bytes in hex, `LINE` on a line.
 fn write_hex(bytes: &[u8], out: &mut impl Write) -> io::Result<()> {
     for line in bytes.chunks(LINE) {
         for byte in line {
@@ -89,7 +88,7 @@ fn write_hex(bytes: &[u8], out: &mut impl Write) -> io::Result<()> {
     Ok(())
 }
 
-/// Prints the log of a device up to a damaged block, and then says that it is damaged, where it is.
+/// Prints a device's log up to a damaged block, and then says if there is one.
 fn dump_damaged<D: Device, W: Write + Drop, E: Write + Drop>(
     alloc: Global,
     path: &str,
@@ -110,7 +109,7 @@ fn dump_damaged<D: Device, W: Write + Drop, E: Write + Drop>(
     }
 }
 
-/// Prints the log of a device up to a damaged block by way of a buffer. The answer is the place of that block, where there is one.
+/// Prints a device's log up to a damaged block, through a buffer. Returns that block's place, if there is one.
 fn dump_buffered<D: Device, W: Write + Drop>(
     alloc: Global,
     device: &mut D,
@@ -128,12 +127,12 @@ fn dump_buffered<D: Device, W: Write + Drop>(
     Ok(damaged)
 }
 
-/// Prints the bytes of a block of the home area as an opening of the log of a device would leave it. Where the log is refused, or there is
-/// no such block, lines on `err` say why. The device is read, and stays as it was.
+/// Prints the bytes of a home block as an opening of the log would leave it. Lines on `err` say why the log is refused, or that there is no
+/// such block.
 ///
 /// # Errors
 ///
-/// The output can't be written.
+/// The output could not be written.
 pub fn cat<D: Device, W: Write, E: Write + Drop>(
     alloc: Global,
     words: &CatWords<'_>,

@@ -1,7 +1,7 @@
-//! What a refusal comes of, and what to do about it, in a line.
+//! The cause of each refusal and what to do about it, in a line.
 use journal_model::JournalError;
 
-/// What stands below the line of a refusal: its cause in a sentence, and the next step.
+/// The line below a refusal: its cause and the next step.
 pub(crate) fn advice_of(e: JournalError) -> &'static str {
     match e {
         JournalError::Memory => {
@@ -30,7 +30,7 @@ pub(crate) fn advice_of(e: JournalError) -> &'static str {
     }
 }
 
-/// That of the refusals of an operation of a script.
+/// As `advice_of`, for refusals of a script's operation.
 fn advice_of_operation(e: JournalError) -> &'static str {
     match e {
         JournalError::NoCredit => {
@@ -52,7 +52,7 @@ fn advice_of_operation(e: JournalError) -> &'static str {
             "the log may still bring home an older copy of that block: write it by a handle, or revoke it and commit first"
         }
         JournalError::NeedSpace => {
-            "the log has no room left for the transaction: [\"check\"] before its commit brings home what is committed, and makes room"
+            "the log has no room left for the transaction: [\"check\"] before its commit brings home what is committed, and makes room; apply --make-room does both"
         }
         JournalError::Revoked => {
             "the block was revoked, and holds nothing to be read: write it first, or read it once the revoke is committed and checked"
@@ -61,7 +61,7 @@ fn advice_of_operation(e: JournalError) -> &'static str {
     }
 }
 
-/// That of the refusals of a superblock.
+/// As `advice_of`, for refusals of a superblock.
 fn advice_of_superblock(e: JournalError) -> &'static str {
     match e {
         JournalError::BadMagic => {

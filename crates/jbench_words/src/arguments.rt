@@ -1,29 +1,28 @@
-//! The words that the program was called with, as the system has them: any bytes.
+//! Reads the program's words from the system, as any bytes.
 use std::alloc::Global;
 use std::env::{Env, FillError};
 use std::io;
 use std::io::ErrorKind;
 use std::str::from_utf8;
 
-/// Most words have no more bytes than this.
+/// Most words have at most this many bytes.
 const FIRST_LENGTH: usize = 256;
 
-/// The words that the program was called with, the first of which is its own name.
+/// The program's words; the first is its own name.
 #[derive(Drop)]
 pub struct Arguments {
     words: Vec<String>,
-    /// Which of them is the first, behind the program's name, that is no text.
+    /// The first word after the program's name that is not UTF-8.
     no_text: Option<usize>,
 }
 
 impl Arguments {
-    /// The words. One that is no text has U+FFFD where its bytes are none.
+    /// The words; bytes that are not UTF-8 become U+FFFD.
     pub fn words(&self) -> &[String] {
         &self.words
     }
 
-    /// The first word behind the program's name that is no text. No file is opened by such a name, and no value of an option is
-    /// such a word.
+    /// The first word after the program's name that is not UTF-8. It names no file, and no option takes it.
     pub fn no_text(&self) -> Option<&str> {
         match self.words.get(self.no_text?) {
             Some(word) => Some(word.as_str()),
@@ -31,7 +30,6 @@ impl Arguments {
         }
     }
 
-    /// Adds the bytes of a word.
     fn push(&mut self, alloc: Global, bytes: &[u8]) -> io::Result<()> {
         let place = self.words.len();
         if place > 0 && self.no_text.is_none() && from_utf8(bytes).is_err() {
@@ -42,7 +40,7 @@ impl Arguments {
     }
 }
 
-/// Takes all words.
+/// Reads all words.
 ///
 /// # Errors
 ///
@@ -61,7 +59,7 @@ pub fn read<R: Env>(rt: &R, alloc: Global) -> io::Result<Arguments> {
     Ok(arguments)
 }
 
-/// The bytes of the word at this place, or `None` behind the last.
+/// The bytes of the word at this place; `None` after the last.
 fn bytes_at<R: Env>(rt: &R, alloc: Global, place: usize) -> io::Result<Option<Vec<u8>>> {
     let mut length = FIRST_LENGTH;
     for _ in 0..usize::BITS {

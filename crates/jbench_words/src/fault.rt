@@ -1,4 +1,4 @@
-//! How a command ends, and what it says where it can't go on.
+//! How a command ends, and what it prints if it cannot go on.
 ghost use Rattle.std.specs.Prelude.{◌≡◌, IfOk};
 ghost use Rattle.jbench_words.specs.declared.fault.Status.TheVariants.{Refused};
 
@@ -10,14 +10,13 @@ use std::io;
 use std::io::{ErrorKind, Write};
 use std::process::ExitCode;
 
-/// How a command ended.
 #[derive(Clone, Copy)]
 pub enum Status {
-    /// It did what was asked: exit status 0.
+    /// The command did its work: exit status 0.
     Fine,
     /// The words, a file, the script or the log was refused: exit status 1.
     Refused,
-    /// What an opening gave back is not what the run had promised: exit status 2.
+    /// An opening broke the run's promise: exit status 2.
     VerdictFalse,
 }
 
@@ -31,25 +30,25 @@ impl From<Status> for ExitCode {
     }
 }
 
-/// Why a command can't go on.
+/// Why a command cannot go on.
 #[derive(Drop)]
 pub enum Fault {
-    /// A file can't be opened or read, for this reason.
+    /// A file cannot be opened or read.
     File(io::Error),
-    /// The script is no script, for this reason.
+    /// The text is no script.
     BadScript(BadScript),
-    /// The files of an image can't be made, for this reason.
+    /// The files of an image cannot be made.
     ImageFile(io::Error),
-    /// The clock can't be read.
+    /// The clock cannot be read.
     Clock,
     /// The journal refused, or memory ran out.
     Refused(JournalError),
-    /// The output can't be written.
+    /// The output cannot be written.
     Output(io::Error),
 }
 
 impl Fault {
-    /// Why a file can't be opened or read.
+    /// The fault of a file that cannot be opened or read.
     pub fn of_file(e: io::Error) -> Fault {
         match e.kind() {
             ErrorKind::OutOfMemory => Fault::Refused(JournalError::Memory),
@@ -57,7 +56,7 @@ impl Fault {
         }
     }
 
-    /// Why the clock can't be read.
+    /// The fault of a clock that cannot be read.
     pub fn of_clock(e: io::Error) -> Fault {
         match e.kind() {
             ErrorKind::OutOfMemory => Fault::Refused(JournalError::Memory),
@@ -65,7 +64,7 @@ impl Fault {
         }
     }
 
-    /// Why the files of an image can't be made.
+    /// The fault of image files that cannot be made.
     pub fn of_image(e: io::Error) -> Fault {
         match e.kind() {
             ErrorKind::OutOfMemory => Fault::Refused(JournalError::Memory),
@@ -121,12 +120,11 @@ impl From<log_dump::Fault> for Fault {
     }
 }
 
-/// Writes the line that says why a command can't go on, and a second one with the reason, and with what to do. `path` names its file.
-/// Of output whose reader went away there is nothing to say.
+/// Writes a fault's line, then one with its cause and advice. `path` names the file. If the output's reader went away, it writes nothing.
 ///
 /// # Errors
 ///
-/// The line can't be written.
+/// The lines could not be written.
 fn report(err: &mut impl Write, path: &str, fault: &Fault) -> io::Result<()> {
     match fault {
         Fault::File(e) | Fault::ImageFile(e) => report_file(err, path, e),
@@ -143,7 +141,7 @@ fn report(err: &mut impl Write, path: &str, fault: &Fault) -> io::Result<()> {
     }
 }
 
-/// Writes which file a command can't go on for, and behind it why.
+/// Writes a file's name and why the command cannot go on with it.
 fn report_file(err: &mut impl Write, path: &str, e: &io::Error) -> io::Result<()> {
     writeln!(err, "jbench: file {path}")?;
     match e.kind() {
@@ -152,11 +150,11 @@ fn report_file(err: &mut impl Write, path: &str, e: &io::Error) -> io::Result<()
     }
 }
 
-/// Writes the lines that say why a command can't go on: `path` names its file. The command is then refused.
+/// Writes why a command on the file `path` cannot go on, and answers `Refused`.
 ///
 /// # Errors
 ///
-/// The line can't be written.
+/// The lines could not be written.
 pub fn refuse(err: &mut impl Write, path: &str, fault: &Fault) -> io::Result<Status>
     ensures { IfOk result (λ status. status ≡ Refused) }
 {
@@ -166,18 +164,18 @@ pub fn refuse(err: &mut impl Write, path: &str, fault: &Fault) -> io::Result<Sta
     }
 }
 
-/// Says that the file of this path can't be opened, and why, or that memory ran out. The command is then refused.
+/// Writes why the file `path` cannot be opened, or that memory ran out, and answers `Refused`.
 ///
 /// # Errors
 ///
-/// The line can't be written.
+/// The line could not be written.
 pub fn refuse_file(err: &mut impl Write, path: &str, e: io::Error) -> io::Result<Status>
     ensures { IfOk result (λ status. status ≡ Refused) }
 {
     refuse(err, path, &Fault::of_file(e))
 }
 
-/// Says why the program can't go on that failed so: memory ran out, or its output can't be written.
+/// Writes why the program cannot go on: memory ran out, or its output could not be written.
 pub fn refuse_rest(err: &mut impl Write, e: io::Error) -> Status {
     let _ = report(err, "", &Fault::from(e));
     Status::Refused

@@ -1,4 +1,4 @@
-//! What the words of a command tell, within their limits.
+//! Reads the values of a command's words, and checks their limits.
 ghost use Rattle.std.specs.Prelude.{◌≡◌, ◌≤◌, IfOk, IfSome};
 ghost use Rattle.journal_script.specs.Measures.{AreLimited};
 ghost use Rattle.log_format.specs.Size.{IsBlockSize};
@@ -6,17 +6,17 @@ ghost use Rattle.log_format.specs.Size.{IsBlockSize};
 use crate::wanted::Wanted;
 use crate::words::{
     ApplyWords, BenchWords, CatWords, DumpWords, FormatWords, LogPaths, RecoverWords, RunWords,
-    StopWords, SweepWords, Words,
+    ServeWords, StopWords, SweepWords, Words,
 };
 use clap::ArgMatches;
 use jbench_help::Shell;
 use journal_script::{DEFAULTS, HOMES, LENGTHS, Measures, is_block_size, limited, uuid_of};
 use std::alloc::{AllocError, Global};
 
-/// How many blocks a transaction of `bench` has where it is told nothing else.
+/// The default blocks of a transaction of `bench`.
 const COPIES: u64 = 4;
 
-/// The numbers of a list with commas, or `None` where it is no such list. An empty text is an empty list.
+/// The numbers of a list with commas; `None` if it is malformed. An empty text is an empty list.
 fn list_of(alloc: Global, text: &str) -> Result<Option<Vec<u64>>, AllocError> {
     if text.is_empty() {
         return Ok(Some(Vec::new(alloc)));
@@ -31,7 +31,7 @@ fn list_of(alloc: Global, text: &str) -> Result<Option<Vec<u64>>, AllocError> {
     Ok(Some(numbers))
 }
 
-/// The number behind a word, which has to be within limits that both count, or `None` where the word is not there.
+/// An option's number, which must be within inclusive limits; `None` without the option.
 fn number_of(
     matches: &ArgMatches<'_>,
     name: &str,
@@ -50,7 +50,7 @@ fn number_of(
     }
 }
 
-/// The numbers of a list behind a word, none where the word is not there.
+/// The numbers of an option's list; none without the option.
 fn numbers_of(
     alloc: Global,
     matches: &ArgMatches<'_>,
@@ -60,7 +60,7 @@ fn numbers_of(
     list_of(alloc, matches.get_str(name).unwrap_or(""))?.ok_or(wanted)
 }
 
-/// The stop of a run that `run` is told.
+/// The stop of the run of `run`.
 fn run_stop(alloc: Global, matches: &ArgMatches<'_>) -> Result<StopWords, Wanted> {
     Ok(StopWords {
         at_write: number_of(matches, "stop", (1, u64::MAX), Wanted::WriteNumber)?,
@@ -68,7 +68,7 @@ fn run_stop(alloc: Global, matches: &ArgMatches<'_>) -> Result<StopWords, Wanted
     })
 }
 
-/// The stop of an opening that `run` is told.
+/// The stop of the opening of `run`.
 fn opening_stop(alloc: Global, matches: &ArgMatches<'_>) -> Result<StopWords, Wanted> {
     Ok(StopWords {
         at_write: number_of(matches, "stop2", (1, u64::MAX), Wanted::OpeningNumber)?,
@@ -76,7 +76,7 @@ fn opening_stop(alloc: Global, matches: &ArgMatches<'_>) -> Result<StopWords, Wa
     })
 }
 
-/// The files of an image that `run` is told.
+/// The image files of `run`.
 fn image_paths<'a>(matches: &ArgMatches<'a>) -> Result<Option<LogPaths<'a>>, Wanted> {
     match (matches.get_str("image-log"), matches.get_str("image-home")) {
         (Some(log), Some(home)) => Ok(Some(LogPaths { log, home })),
@@ -85,7 +85,7 @@ fn image_paths<'a>(matches: &ArgMatches<'a>) -> Result<Option<LogPaths<'a>>, Wan
     }
 }
 
-/// The call that `run` is told to let fail, where it is told no stop.
+/// The failing call of `run`, if there is no stop.
 fn failing_call(matches: &ArgMatches<'_>) -> Result<Option<u64>, Wanted> {
     let call = number_of(matches, "fail", (1, u64::MAX), Wanted::CallNumber)?;
     if call.is_some() && matches.get_str("stop").is_some() {
@@ -94,7 +94,6 @@ fn failing_call(matches: &ArgMatches<'_>) -> Result<Option<u64>, Wanted> {
     Ok(call)
 }
 
-/// What `run` is told.
 fn run_words<'a>(alloc: Global, matches: &ArgMatches<'a>) -> Result<RunWords<'a>, Wanted> {
     let run = run_stop(alloc, matches)?;
     Ok(RunWords {
@@ -107,7 +106,7 @@ fn run_words<'a>(alloc: Global, matches: &ArgMatches<'a>) -> Result<RunWords<'a>
     })
 }
 
-/// The bytes of a block that `format` is told.
+/// The block size of `format` in bytes.
 fn block_size_told(matches: &ArgMatches<'_>) -> Result<usize, Wanted>
     ensures { IfOk result IsBlockSize }
 {
@@ -120,7 +119,7 @@ fn block_size_told(matches: &ArgMatches<'_>) -> Result<usize, Wanted>
     }
 }
 
-/// The UUID that `format` is told.
+/// The UUID of `format`.
 fn uuid_told(alloc: Global, matches: &ArgMatches<'_>) -> Result<[u8; 16], Wanted> {
     match matches.get_str("uuid") {
         Some(digits) => uuid_of(alloc, digits)?.ok_or(Wanted::HexDigits),
@@ -128,7 +127,7 @@ fn uuid_told(alloc: Global, matches: &ArgMatches<'_>) -> Result<[u8; 16], Wanted
     }
 }
 
-/// The blocks of a home area that `format` is told. One that is kept needs no more than one block where nothing is told.
+/// The home blocks of `format`; without the option, a kept home area needs only one.
 fn home_blocks_told(matches: &ArgMatches<'_>, keep_home: bool) -> Result<u64, Wanted>
     ensures some { IfOk result (λ blocks. 1 ≤ blocks) }
     ensures most { IfOk result (λ blocks. blocks ≤ 1048576) }
@@ -140,7 +139,7 @@ fn home_blocks_told(matches: &ArgMatches<'_>, keep_home: bool) -> Result<u64, Wa
     }
 }
 
-/// The measures that `format` is told.
+/// The measures of `format`.
 fn measures_of(alloc: Global, matches: &ArgMatches<'_>, keep_home: bool) -> Result<Measures, Wanted>
     ensures { IfOk result AreLimited }
 {
@@ -156,7 +155,6 @@ fn measures_of(alloc: Global, matches: &ArgMatches<'_>, keep_home: bool) -> Resu
     })
 }
 
-/// What `format` is told.
 fn format_words<'a>(alloc: Global, matches: &ArgMatches<'a>) -> Result<FormatWords<'a>, Wanted> {
     let keep_home = matches.get_flag("keep-home");
     Ok(FormatWords {
@@ -167,7 +165,6 @@ fn format_words<'a>(alloc: Global, matches: &ArgMatches<'a>) -> Result<FormatWor
     })
 }
 
-/// What `sweep` is told.
 fn sweep_words<'a>(matches: &ArgMatches<'a>) -> SweepWords<'a> {
     SweepWords {
         script: script_told(matches),
@@ -176,7 +173,7 @@ fn sweep_words<'a>(matches: &ArgMatches<'a>) -> SweepWords<'a> {
     }
 }
 
-/// The files of the log that a command is told.
+/// A command's log files.
 fn log_paths<'a>(matches: &ArgMatches<'a>) -> LogPaths<'a> {
     LogPaths {
         log: log_told(matches),
@@ -184,7 +181,6 @@ fn log_paths<'a>(matches: &ArgMatches<'a>) -> LogPaths<'a> {
     }
 }
 
-/// What `dump` is told.
 fn dump_words<'a>(matches: &ArgMatches<'a>) -> Result<DumpWords<'a>, Wanted> {
     let damaged = matches.get_flag("damaged");
     let copy = number_of(matches, "copy", (1, u64::MAX), Wanted::Place)?;
@@ -198,37 +194,37 @@ fn dump_words<'a>(matches: &ArgMatches<'a>) -> Result<DumpWords<'a>, Wanted> {
     })
 }
 
-/// What `cat` is told.
 fn cat_words<'a>(matches: &ArgMatches<'a>) -> Result<CatWords<'a>, Wanted> {
     match number_of(matches, "block", (0, u64::MAX), Wanted::Block)? {
         Some(block) => Ok(CatWords {
             paths: log_paths(matches),
             block,
+            wait: wait_told(matches)?,
         }),
         None => Err(Wanted::Block),
     }
 }
 
-/// What `recover` is told.
-fn recover_words<'a>(matches: &ArgMatches<'a>) -> RecoverWords<'a> {
-    RecoverWords {
+fn recover_words<'a>(matches: &ArgMatches<'a>) -> Result<RecoverWords<'a>, Wanted> {
+    Ok(RecoverWords {
         paths: log_paths(matches),
         before_damage: matches.get_flag("before-damage"),
         dry_run: matches.get_flag("dry-run"),
-    }
+        wait: wait_told(matches)?,
+    })
 }
 
-/// What `apply` is told.
-fn apply_words<'a>(matches: &ArgMatches<'a>) -> ApplyWords<'a> {
-    ApplyWords {
+fn apply_words<'a>(matches: &ArgMatches<'a>) -> Result<ApplyWords<'a>, Wanted> {
+    Ok(ApplyWords {
         paths: log_paths(matches),
         script: script_told(matches),
         stay: matches.get_flag("stay"),
         keep_going: matches.get_flag("keep-going"),
-    }
+        make_room: matches.get_flag("make-room"),
+        wait: wait_told(matches)?,
+    })
 }
 
-/// What `bench` is told.
 fn bench_words<'a>(matches: &ArgMatches<'a>) -> Result<BenchWords<'a>, Wanted> {
     let copies = number_of(matches, "copies", (1, u64::MAX), Wanted::Copies)?;
     Ok(BenchWords {
@@ -238,25 +234,40 @@ fn bench_words<'a>(matches: &ArgMatches<'a>) -> Result<BenchWords<'a>, Wanted> {
         copies: copies.unwrap_or(COPIES),
         threads: number_of(matches, "threads", (1, 64), Wanted::Threads)?,
         csv: matches.get_flag("csv"),
+        wait: wait_told(matches)?,
     })
 }
 
-/// The shell that `completions` is told.
+fn serve_words<'a>(matches: &ArgMatches<'a>) -> Result<ServeWords<'a>, Wanted> {
+    Ok(ServeWords {
+        paths: log_paths(matches),
+        read_only: matches.get_flag("read-only"),
+        export: matches.get_str("export").unwrap_or(""),
+        wait: wait_told(matches)?,
+    })
+}
+
+/// The most seconds to wait for locked files; 0 without the option.
+fn wait_told(matches: &ArgMatches<'_>) -> Result<u64, Wanted> {
+    let told = number_of(matches, "wait", (1, 86_400), Wanted::Wait)?;
+    Ok(told.unwrap_or(0))
+}
+
+/// The shell of `completions`.
 fn shell_told(matches: &ArgMatches<'_>) -> Result<Shell, Wanted> {
     Shell::named(matches.get_str("shell").unwrap_or("")).ok_or(Wanted::Shell)
 }
 
-/// The script's file that a command is told.
+/// A command's script file.
 fn script_told<'a>(matches: &ArgMatches<'a>) -> &'a str {
     matches.get_str("script").unwrap_or("")
 }
 
-/// The log's file that a command is told.
+/// A command's log file.
 fn log_told<'a>(matches: &ArgMatches<'a>) -> &'a str {
     matches.get_str("log").unwrap_or("")
 }
 
-/// What a command is told.
 pub(crate) fn words_of<'a>(alloc: Global, matches: &ArgMatches<'a>) -> Result<Words<'a>, Wanted> {
     match matches.subcommand() {
         Some((name, told)) => command_words(alloc, name, told),
@@ -264,7 +275,7 @@ pub(crate) fn words_of<'a>(alloc: Global, matches: &ArgMatches<'a>) -> Result<Wo
     }
 }
 
-/// What the command of this name is told.
+/// The words of the command of this name.
 fn command_words<'a>(
     alloc: Global,
     name: &str,
@@ -279,10 +290,11 @@ fn command_words<'a>(
         "dump" => dump_words(told).map(Words::Dump),
         "cat" => cat_words(told).map(Words::Cat),
         "show" => Ok(Words::Show(log_told(told))),
-        "recover" => Ok(Words::Recover(recover_words(told))),
+        "recover" => recover_words(told).map(Words::Recover),
         "upgrade" => Ok(Words::Upgrade(log_told(told))),
-        "apply" => Ok(Words::Apply(apply_words(told))),
+        "apply" => apply_words(told).map(Words::Apply),
         "bench" => bench_words(told).map(Words::Bench),
+        "serve" => serve_words(told).map(Words::Serve),
         "completions" => Ok(Words::Completions(shell_told(told)?)),
         "man" => Ok(Words::Man),
         _ => Err(Wanted::Command),

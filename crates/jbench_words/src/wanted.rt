@@ -1,53 +1,53 @@
-//! What is wanted of words that `clap` takes, and the line that says so.
+//! Which value is wanted in place of a wrong one, and the line that says so.
 use clap::error::ErrorKind;
 use clap::{Command, Error};
 use jbench_help::command_named;
 use std::alloc::{AllocError, Global};
 
-/// What is wanted of words that `clap` takes.
+/// What is wanted in place of words that `clap` accepts.
 #[derive(Clone, Copy)]
 pub(crate) enum Wanted {
-    /// A write number behind `--stop`.
+    /// A write number for `--stop`.
     WriteNumber,
-    /// The number of a call behind `--fail`.
+    /// A call number for `--fail`.
     CallNumber,
     /// Only one of `--stop` and `--fail`.
     StopOrFail,
-    /// Write numbers with commas behind `--keep`.
+    /// Write numbers with commas for `--keep`.
     WriteNumbers,
-    /// A write number behind `--stop2`.
+    /// A write number for `--stop2`.
     OpeningNumber,
-    /// Write numbers with commas behind `--keep2`.
+    /// Write numbers with commas for `--keep2`.
     OpeningNumbers,
     /// Both files of an image, or neither.
     ImageFiles,
-    /// The bytes of a block behind `--block`.
+    /// A block size for `--block`.
     BlockSize,
-    /// The blocks of a log behind `--length`.
+    /// A log's blocks for `--length`.
     LogBlocks,
-    /// The blocks of a home area behind `--home`.
+    /// A home area's blocks for `--home`.
     HomeBlocks,
-    /// Hex digits behind `--uuid`.
+    /// Hex digits for `--uuid`.
     HexDigits,
-    /// Seconds behind `--seconds`.
+    /// Seconds for `--seconds`.
     Seconds,
-    /// A number of transactions behind `--transactions`.
+    /// A number of transactions for `--transactions`.
     Transactions,
-    /// A number of blocks behind `--copies`.
+    /// A number of blocks for `--copies`.
     Copies,
-    /// A number of clients behind `--threads`.
+    /// A number of clients for `--threads`.
     Threads,
-    /// The place of a copy behind `--copy`.
+    /// Seconds for `--wait`.
+    Wait,
+    /// A copy's place for `--copy`.
     Place,
     /// Only one of `--damaged` and `--copy`.
     DamagedOrCopy,
-    /// A block of the home area behind `cat`.
+    /// A home block for `cat`.
     Block,
-    /// The name of a shell behind `completions`.
+    /// A shell's name for `completions`.
     Shell,
-    /// A command.
     Command,
-    /// Memory.
     Memory,
 }
 
@@ -57,7 +57,6 @@ impl From<AllocError> for Wanted {
     }
 }
 
-/// The line that says what is wanted.
 fn line_of(wanted: Wanted) -> &'static str {
     match wanted {
         Wanted::WriteNumber => "invalid value for '--stop <K>': a number from 1 on is wanted",
@@ -83,6 +82,7 @@ fn line_of(wanted: Wanted) -> &'static str {
         }
         Wanted::Copies => "invalid value for '--copies <K>': a number from 1 on is wanted",
         Wanted::Threads => "invalid value for '--threads <N>': 1 to 64 is wanted",
+        Wanted::Wait => "invalid value for '--wait <SECONDS>': 1 to 86400 is wanted",
         Wanted::Place => "invalid value for '--copy <PLACE>': a number from 1 on is wanted",
         Wanted::DamagedOrCopy => "the argument '--damaged' cannot be used with '--copy <PLACE>'",
         Wanted::Block => "invalid value for '<BLOCK>': a number from 0 on is wanted",
@@ -92,7 +92,7 @@ fn line_of(wanted: Wanted) -> &'static str {
     }
 }
 
-/// The kind of the fault that says what is wanted.
+/// The kind of the error.
 fn kind_of(wanted: Wanted) -> ErrorKind {
     match wanted {
         Wanted::StopOrFail | Wanted::DamagedOrCopy => ErrorKind::ArgumentConflict,
@@ -100,7 +100,7 @@ fn kind_of(wanted: Wanted) -> ErrorKind {
     }
 }
 
-/// The fault that says what is wanted, with the usage of the command of this name.
+/// The error, with the usage of the command of this name.
 pub(crate) fn fault_of(alloc: Global, name: &str, wanted: Wanted) -> Error {
     match command_named(alloc, name) {
         Ok(mut command) => error_of(&mut command, wanted),
@@ -108,7 +108,7 @@ pub(crate) fn fault_of(alloc: Global, name: &str, wanted: Wanted) -> Error {
     }
 }
 
-/// The fault that says what is wanted of a command.
+/// The error of this command.
 fn error_of(command: &mut Command<'_>, wanted: Wanted) -> Error {
     match wanted {
         Wanted::Memory => Error::from(AllocError),

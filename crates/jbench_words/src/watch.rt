@@ -1,22 +1,24 @@
-//! Who is told how far a command is.
+//! Reports a command's progress.
 use journal_model::Area;
 
-/// What a command is about to do, or has done.
+/// A step that a command makes or has made.
 #[derive(Clone, Copy)]
 pub enum Step {
-    /// This block of an area, of so many, is about to be read.
+    /// Block `n` of an area of `blocks` blocks will be read.
     Reads { area: Area, n: u64, blocks: u64 },
-    /// A block of this area is about to be written.
+    /// A block of this area will be written.
     Writes { area: Area },
-    /// The stops at this write, of so many writes, are about to be swept.
+    /// Stops at this write, of `writes` writes, will be swept.
     StopsAt { write: u64, writes: u64 },
-    /// The run of which this call fails, of so many calls, is about to be made.
+    /// The run with this failing call, of `calls` calls, will be made.
     FailsAt { call: u64, calls: u64 },
-    /// A further second is over, this one, counted from 1; so many transactions are durable.
+    /// An area's file of `bytes` bytes will be filled further, from byte `at` on.
+    Fills { area: Area, at: u64, bytes: u64 },
+    /// Another second is over, counted from 1; this many transactions are durable.
     Second { second: u64, transactions: u64 },
 }
 
-/// Is told how far a command is. What it does with that is its own: no answer of a command depends on it.
+/// Learns a command's progress; no answer of a command depends on it.
 pub trait Watch {
     /// The command is at this step.
     fn goes_on(&mut self, step: Step);
@@ -25,7 +27,7 @@ pub trait Watch {
     fn ends(&mut self);
 }
 
-/// Is told how far a command is, and does nothing.
+/// Ignores progress.
 #[derive(Clone, Copy)]
 pub struct Unwatched;
 

@@ -1,4 +1,4 @@
-//! What the program is told by the words that it is called with, and what they are answered where they tell nothing to do.
+//! Parses the program's words, and answers those that name no work.
 use crate::fault::{self, Fault, Status};
 use crate::reading::words_of;
 use crate::wanted::fault_of;
@@ -13,68 +13,69 @@ use std::io;
 use std::io::Write;
 use std::time::Duration;
 
-/// What the program is told to do.
+/// What the program has to do.
 #[derive(Drop)]
 pub enum Words<'a> {
-    /// To run a script.
+    /// Runs a script.
     Run(RunWords<'a>),
-    /// To sweep a script.
+    /// Sweeps a script.
     Sweep(SweepWords<'a>),
-    /// To say whether the script in this file is good.
+    /// Checks the script in this file.
     Check(&'a str),
-    /// To run the clients of the script in this file in threads.
+    /// Runs the clients of the script in this file in threads.
     Threads(&'a str),
-    /// To make an empty log.
+    /// Makes an empty log.
     Format(FormatWords<'a>),
-    /// To print a log.
+    /// Prints a log.
     Dump(DumpWords<'a>),
-    /// To print a block as an opening of a log would leave it.
+    /// Prints a block as an opening would leave it.
     Cat(CatWords<'a>),
-    /// To print the superblock of the log in this file.
+    /// Prints the superblock of the log in this file.
     Show(&'a str),
-    /// To open the log in these files, or to say what that would do.
+    /// Opens a log, or says what that would do.
     Recover(RecoverWords<'a>),
-    /// To give the empty log in this file block numbers of 64 bits.
+    /// Gives the empty log in this file 64-bit block numbers.
     Upgrade(&'a str),
-    /// To do the operations of a script over a log.
+    /// Applies a script's operations to a log.
     Apply(ApplyWords<'a>),
-    /// To tell how long transactions on a log take.
+    /// Measures the time of transactions on a log.
     Bench(BenchWords<'a>),
-    /// To print what this shell is told so that it completes words.
+    /// Serves a log's home area as a block device.
+    Serve(ServeWords<'a>),
+    /// Prints the completions for this shell.
     Completions(Shell),
-    /// To print the page for `man`.
+    /// Prints the page for `man`.
     Man,
 }
 
-/// The words of `sweep`.
 #[derive(Drop)]
 pub struct SweepWords<'a> {
     /// The script's file.
     pub script: &'a str,
-    /// Whether each call of the run is to fail in turn, too.
+    /// Whether each call of the run also fails in turn.
     pub fails: bool,
-    /// It prints an object of JSON, for machines.
+    /// Whether to print JSON.
     pub json: bool,
 }
 
-/// How many seconds `bench` takes where it is told no end.
+/// The seconds of `bench` without a given end.
 const SECONDS: u64 = 10;
 
-/// The words of `bench`.
 #[derive(Clone, Copy)]
 pub struct BenchWords<'a> {
-    /// The files of the log.
     pub paths: LogPaths<'a>,
-    /// How many seconds it takes at most, if that is told.
+    /// The most seconds, if given.
     pub seconds: Option<u64>,
-    /// How many transactions it commits at most, if that is told.
+    /// The most transactions, if given.
     pub transactions: Option<u64>,
-    /// How many blocks each transaction writes.
+    /// Blocks that each transaction writes.
     pub copies: u64,
-    /// How many clients work in threads of their own, where that is told: else one works in no thread.
+    /// How many clients run in threads; `None` for one client without threads.
     pub threads: Option<u64>,
-    /// It prints values with commas, for machines.
+    /// Whether to print values with commas.
     pub csv: bool,
+    /// The most seconds to wait for a locked file.
+    pub wait: u64,
 }
 
 impl BenchWords<'_> {
@@ -83,7 +84,7 @@ impl BenchWords<'_> {
         self.transactions.unwrap_or(u64::MAX)
     }
 
-    /// The time behind which it begins no further transaction, where it has one.
+    /// The time after which it begins no transaction, if there is one.
     pub fn most_time(&self) -> Option<Duration> {
         match (self.seconds, self.transactions) {
             (Some(seconds), _) => Some(Duration::from_secs(seconds)),
@@ -93,99 +94,109 @@ impl BenchWords<'_> {
     }
 }
 
-/// The words of `apply`.
+#[derive(Clone, Copy)]
+pub struct ServeWords<'a> {
+    pub paths: LogPaths<'a>,
+    /// Whether to refuse changes.
+    pub read_only: bool,
+    /// The export's name.
+    pub export: &'a str,
+    /// The most seconds to wait for locked files.
+    pub wait: u64,
+}
+
 #[derive(Clone, Copy)]
 pub struct ApplyWords<'a> {
-    /// The files of the log.
     pub paths: LogPaths<'a>,
     /// The script's file.
     pub script: &'a str,
-    /// The journal is not to be closed.
+    /// Whether to leave the journal open.
     pub stay: bool,
-    /// The work goes on behind an operation that is refused.
+    /// Whether to go on after a refused operation.
     pub keep_going: bool,
+    /// Whether to make a checkpoint round when the ring has no room for an operation.
+    pub make_room: bool,
+    /// The most seconds to wait for a locked file.
+    pub wait: u64,
 }
 
-/// The words of `dump`.
 #[derive(Clone, Copy)]
 pub struct DumpWords<'a> {
-    /// The file of the log.
+    /// The log's file.
     pub log: &'a str,
-    /// A log that is refused as damaged is printed up to there.
+    /// Whether to print a damaged log up to the damage.
     pub damaged: bool,
-    /// The place of the copy that is to be printed in the place of the log, if one is told.
+    /// The place of the copy to print instead of the log, if given.
     pub copy: Option<u64>,
 }
 
-/// The words of `cat`.
 #[derive(Clone, Copy)]
 pub struct CatWords<'a> {
-    /// The files of the log.
     pub paths: LogPaths<'a>,
-    /// The block of the home area.
+    /// The home block.
     pub block: u64,
+    /// The most seconds to wait for a file that another program writes.
+    pub wait: u64,
 }
 
-/// The words of `recover`.
 #[derive(Clone, Copy)]
 pub struct RecoverWords<'a> {
-    /// The files of the log.
     pub paths: LogPaths<'a>,
-    /// A log that is refused as damaged or ahead is opened in spite of that.
+    /// Whether to open a log even if it is damaged or ahead.
     pub before_damage: bool,
-    /// Nothing is written: what would be done is said.
+    /// Whether to say what would be done, and write nothing.
     pub dry_run: bool,
+    /// The most seconds to wait for a locked file.
+    pub wait: u64,
 }
 
 /// The files of a log.
 #[derive(Clone, Copy)]
 pub struct LogPaths<'a> {
-    /// The file of the log.
+    /// The log's file.
     pub log: &'a str,
-    /// The file of the home area.
+    /// The home area's file.
     pub home: &'a str,
 }
 
-/// The words of `format`.
 #[derive(Drop)]
 pub struct FormatWords<'a> {
-    /// The files that are made.
+    /// The files to make.
     pub paths: LogPaths<'a>,
-    /// What is made, within its limits. Of a home area that is kept, the fewest blocks that it has to have.
+    /// The log's measures, within their limits; a kept home area has at least these blocks.
     pub measures: Measures,
-    /// The home area is there, and stays as it is.
+    /// Whether home exists and stays as it is.
     pub keep_home: bool,
-    /// No file that is made may be there.
+    /// Whether to refuse a file that exists.
     pub has_to_be_new: bool,
 }
 
-/// The words of `run`.
 #[derive(Drop)]
 pub struct RunWords<'a> {
     /// The script's file.
     pub script: &'a str,
-    /// The call of the run that fails, if one is told.
+    /// The run's failing call, if given.
     pub failing_call: Option<u64>,
     /// The stop of the run.
     pub run: StopWords,
-    /// The stop of the opening of what the run left.
+    /// The stop of the opening of the crash image.
     pub opening: StopWords,
-    /// The files that get what the run left, if any do.
+    /// The files for the crash image, if given.
     pub image: Option<LogPaths<'a>>,
-    /// It prints an object of JSON, for machines.
+    /// Whether to print JSON.
     pub json: bool,
 }
 
-/// Where a device is to stop.
+/// Where a device stops.
 #[derive(Drop)]
 pub struct StopWords {
-    /// The write at which it stops, if one is told.
+    /// The write at which it stops, if given.
     pub at_write: Option<u64>,
-    /// The unflushed writes that are kept.
+    /// The unflushed writes that a crash keeps.
     pub keep: Vec<u64>,
 }
 
-/// What the program is told, or the fault of it.
+/// The program's work, or what is wrong with the words.
 fn told<'a>(alloc: Global, matches: &ArgMatches<'a>) -> Result<Words<'a>, Error> {
     match words_of(alloc, matches) {
         Ok(words) => Ok(words),
@@ -193,7 +204,7 @@ fn told<'a>(alloc: Global, matches: &ArgMatches<'a>) -> Result<Words<'a>, Error>
     }
 }
 
-/// Reads the words of this program.
+/// Parses the words of this program.
 fn parse_as<'a, S: AsStr>(
     alloc: Global,
     program: &mut Command<'a>,
@@ -205,11 +216,11 @@ fn parse_as<'a, S: AsStr>(
     }
 }
 
-/// Reads the words, the first of which is the program's own name.
+/// Parses the words; the first is the program's own name.
 ///
 /// # Errors
 ///
-/// The fault of the words as `clap` words it; a request for help or for the version; memory ran out.
+/// The words are wrong, as `clap` says; they ask for help or the version; memory ran out.
 pub fn parse<'a, S: AsStr>(alloc: Global, words: &'a [S]) -> Result<Words<'a>, Error> {
     match program(alloc) {
         Ok(mut program) => parse_as(alloc, &mut program, words),
@@ -217,12 +228,11 @@ pub fn parse<'a, S: AsStr>(alloc: Global, words: &'a [S]) -> Result<Words<'a>, E
     }
 }
 
-/// Writes what the words are answered where they tell nothing to do: help or the version to `out`, which is no refusal, or else what
-/// is wrong with them to `err`.
+/// Writes the answer to words that name no work: help or the version to `out`, which is no refusal, or what is wrong to `err`.
 ///
 /// # Errors
 ///
-/// The answer can't be written.
+/// The answer could not be written.
 pub fn answer(e: &Error, out: &mut impl Write, err: &mut impl Write) -> io::Result<Status> {
     if e.kind() == ErrorKind::OutOfMemory {
         fault::refuse(err, "", &Fault::Refused(JournalError::Memory))
@@ -233,7 +243,7 @@ pub fn answer(e: &Error, out: &mut impl Write, err: &mut impl Write) -> io::Resu
     }
 }
 
-/// Writes an answer, and tells how the command then ended.
+/// Writes an answer, and gives the status back.
 fn say(to: &mut impl Write, e: &Error, status: Status) -> io::Result<Status> {
     write!(to, "{e}")?;
     Ok(status)

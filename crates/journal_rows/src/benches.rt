@@ -1,4 +1,4 @@
-//! Rows of the command `bench`, over a device in memory and a clock that goes on by itself.
+//! Rows of the command `bench`, over a device in memory and a clock that advances by itself.
 use crate::commands::{text_of, words_in};
 use block_device::MemDevice;
 use commit_times::bench;
@@ -14,12 +14,11 @@ use std::fmt::Write;
 use std::io;
 use std::time::{Clock, Duration};
 
-/// A clock that goes on at each look at it: at the first one by so many nanoseconds, and at each further one by as many more than at
-/// the look before.
+/// A clock that advances at each reading: first by `next` nanoseconds, then each time by `more` nanoseconds more.
 #[derive(Drop)]
 struct Ticks {
     nanoseconds: Cell<u64>,
-    /// How far it goes on at the next look.
+    /// How far it advances at the next reading.
     next: Cell<u64>,
     more: u64,
 }
@@ -38,7 +37,7 @@ impl Clock for Ticks {
     }
 }
 
-/// Writes down the seconds of which it is told.
+/// Records the reported seconds.
 #[derive(Drop)]
 struct Seconds<'a> {
     text: &'a mut String,
@@ -58,9 +57,8 @@ impl Watch for Seconds<'_> {
     fn ends(&mut self) {}
 }
 
-/// Transactions on an empty log. Given: the words of the program on a line, and as `1024 33 64 1000` the bytes of the device's blocks,
-/// how many its log and its home area have, and by how many nanoseconds the clock goes on at the first look at it. Found: the seconds of which
-/// it tells, and the rest as of a run.
+/// Transactions on an empty log. Given: the program's words on a line, and, like `1024 33 64 1000`, the block size in bytes, the blocks of
+/// log and home, and the clock's first advance in nanoseconds. Found: the reported seconds, then as for a run.
 pub fn bench(alloc: Global, given: &str) -> Result<String, RowError> {
     let (line, shape) = cut(given, "\n")?;
     let words = words_in(alloc, line)?;
@@ -72,7 +70,7 @@ pub fn bench(alloc: Global, given: &str) -> Result<String, RowError> {
     }
 }
 
-/// This device with an empty log of so many blocks.
+/// This device with an empty log of this many blocks.
 fn formatted(device: MemDevice, log_blocks: u64) -> Result<MemDevice, RowError> {
     let mut device = device;
     let log_blocks = u32::try_from(log_blocks).unwrap_or(0);
@@ -82,7 +80,7 @@ fn formatted(device: MemDevice, log_blocks: u64) -> Result<MemDevice, RowError> 
     }
 }
 
-/// What `bench` says of the log on this device, with a clock of such steps.
+/// The output of `bench` for this device's log, with such a clock.
 fn bench_device(
     alloc: Global,
     words: &BenchWords<'_>,

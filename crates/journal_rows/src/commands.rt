@@ -9,8 +9,8 @@ use jbench_logs::{logs, recovering, show};
 use jbench_words::fault::Status;
 use jbench_words::watch::Unwatched;
 use jbench_words::words::{
-    ApplyWords, BenchWords, CatWords, DumpWords, FormatWords, RecoverWords, RunWords, StopWords,
-    SweepWords, Words, answer, parse,
+    ApplyWords, BenchWords, CatWords, DumpWords, FormatWords, RecoverWords, RunWords, ServeWords,
+    StopWords, SweepWords, Words, answer, parse,
 };
 use journal_script::{Script, ScriptError, read};
 use run_rows::journals::{Runner, Shared};
@@ -21,8 +21,8 @@ use std::alloc::{AllocError, Global};
 use std::fmt::Write;
 use std::sync::Wait;
 
-/// A run of a script. Given: the words of the program on a line, and the script. Found: the lines that it prints, each line on
-/// standard error behind its name, and the exit status; and where a run over the journal that threads share prints other lines, these.
+/// Runs. Given: the program's words on a line, and the script. Found: the printed lines, each line on standard error after its name, and
+/// the exit status; then those of a run over a shared journal, if they differ.
 pub fn run<R: Wait>(rt: &R, alloc: Global, given: &str) -> Result<String, RowError> {
     let (line, script) = given.split_once('\n').unwrap_or((given, ""));
     let words = words_in(alloc, line)?;
@@ -38,8 +38,7 @@ pub fn run<R: Wait>(rt: &R, alloc: Global, given: &str) -> Result<String, RowErr
     }
 }
 
-/// What `run` would say of this script over the journal that threads share. Nothing where the text is no script, and where it has
-/// another form than lines.
+/// The output of `run` for this script over a shared journal; `None` if the text is no script, or the output is JSON.
 fn run_shared<R: Wait>(
     rt: &R,
     alloc: Global,
@@ -56,7 +55,7 @@ fn run_shared<R: Wait>(
     }
 }
 
-/// The lines of a run over the journal that threads share, and the exit status.
+/// The lines and exit status of a run over a shared journal.
 fn run_lines<R: Wait>(
     rt: &R,
     alloc: Global,
@@ -75,7 +74,7 @@ fn run_lines<R: Wait>(
     }
 }
 
-/// Where a device stops, as words tell.
+/// A device's stop, by the words.
 fn stop_told(words: &StopWords) -> Stop<'_> {
     Stop {
         at_write: words.at_write,
@@ -83,7 +82,7 @@ fn stop_told(words: &StopWords) -> Stop<'_> {
     }
 }
 
-/// How a run ends with this verdict.
+/// The status of a run with this verdict.
 fn status_of(right: bool) -> Status {
     if right {
         Status::Fine
@@ -92,7 +91,7 @@ fn status_of(right: bool) -> Status {
     }
 }
 
-/// What `run` says of this script.
+/// The output of `run` for this script.
 fn run_script(alloc: Global, words: &RunWords<'_>, script: &str) -> Result<String, RowError> {
     let mut out = Vec::new(alloc);
     let mut err = Vec::new(alloc);
@@ -102,7 +101,7 @@ fn run_script(alloc: Global, words: &RunWords<'_>, script: &str) -> Result<Strin
     }
 }
 
-/// A sweep of a script. Given: the words of the program on a line, and the script. Found: as of a run.
+/// Sweeps. Given and found: as for a run.
 pub fn sweep(alloc: Global, given: &str) -> Result<String, RowError> {
     let (line, script) = cut(given, "\n")?;
     let words = words_in(alloc, line)?;
@@ -112,7 +111,7 @@ pub fn sweep(alloc: Global, given: &str) -> Result<String, RowError> {
     }
 }
 
-/// What `sweep` says of this script.
+/// The output of `sweep` for this script.
 fn sweep_script(alloc: Global, words: &SweepWords<'_>, script: &str) -> Result<String, RowError> {
     let mut out = Vec::new(alloc);
     let mut err = Vec::new(alloc);
@@ -123,7 +122,7 @@ fn sweep_script(alloc: Global, words: &SweepWords<'_>, script: &str) -> Result<S
     }
 }
 
-/// What is said of a script. Given: the words of the program on a line, and the script. Found: as of a run.
+/// Checks of scripts. Given and found: as for a run.
 pub fn check(alloc: Global, given: &str) -> Result<String, RowError> {
     let (line, script) = given.split_once('\n').unwrap_or((given, ""));
     let words = words_in(alloc, line)?;
@@ -133,7 +132,7 @@ pub fn check(alloc: Global, given: &str) -> Result<String, RowError> {
     }
 }
 
-/// What `check` says of this script.
+/// The output of `check` for this script.
 fn check_script(alloc: Global, path: &str, script: &str) -> Result<String, RowError> {
     let mut out = Vec::new(alloc);
     let mut err = Vec::new(alloc);
@@ -143,7 +142,7 @@ fn check_script(alloc: Global, path: &str, script: &str) -> Result<String, RowEr
     }
 }
 
-/// A script of clients. Given: its text. Found: how many clients it has, and how many handles these start and wait for; or why it is none.
+/// Scripts of clients. Given: the text. Found: the counts of its clients, started handles and waits; or why it is no script.
 pub fn clients(alloc: Global, given: &str) -> Result<String, RowError> {
     match journal_script::read_clients(alloc, given.as_bytes()) {
         Ok(script) => Ok(format!(in alloc;
@@ -157,8 +156,8 @@ pub fn clients(alloc: Global, given: &str) -> Result<String, RowError> {
     }
 }
 
-/// An empty log on a device in memory. Given: the words of the program on a line, and as `1024 33 64` the bytes of the device's
-/// blocks and how many its log and its home area have. Found: as of a run.
+/// Empty logs on a device in memory. Given: the program's words on a line, and, like `1024 33 64`, the device's block size in bytes and the
+/// blocks of log and home. Found: as for a run.
 pub fn format(alloc: Global, given: &str) -> Result<String, RowError> {
     let (line, shape) = cut(given, "\n")?;
     let words = words_in(alloc, line)?;
@@ -168,7 +167,7 @@ pub fn format(alloc: Global, given: &str) -> Result<String, RowError> {
     }
 }
 
-/// What `format` says of an empty log on this device.
+/// The output of `format` for an empty log on this device.
 fn format_device(
     alloc: Global,
     words: &FormatWords<'_>,
@@ -188,14 +187,13 @@ fn format_device(
     }
 }
 
-/// A device in memory of this shape.
 fn device_of(alloc: Global, shape: &str) -> Result<MemDevice, RowError> {
     let [size, log, home] = numbers_in::<3>(shape)?;
     Ok(MemDevice::new(alloc, size as usize, log, home))
 }
 
-/// A log that is recovered. Given: the words of the program on a line, and a log as `log_rows` spells it, on a device in memory
-/// whose home is zeros. Found: as of a run.
+/// Recoveries. Given: the program's words on a line, and a log as `log_rows` spells it, on a device in memory whose home is zeros. Found:
+/// as for a run.
 pub fn recover(alloc: Global, given: &str) -> Result<String, RowError> {
     let (line, log) = cut(given, "\n")?;
     let words = words_in(alloc, line)?;
@@ -205,12 +203,12 @@ pub fn recover(alloc: Global, given: &str) -> Result<String, RowError> {
     }
 }
 
-/// The device that a spelled log is on.
+/// The device of a spelled log.
 pub(crate) fn log_on_device(alloc: Global, log: &str) -> Result<MemDevice, RowError> {
     log_rows::logs::device_of(alloc, &log_rows::logs::log_of(alloc, log)?)
 }
 
-/// What `recover` says of the log on this device.
+/// The output of `recover` for this device's log.
 fn recover_device(
     alloc: Global,
     words: &RecoverWords<'_>,
@@ -224,8 +222,7 @@ fn recover_device(
     }
 }
 
-/// A log that is upgraded. Given: the words of the program on a line, and a log as `log_rows` spells it, on a device in memory. Found:
-/// as of a run, and then the dump of the log, where the command did what was asked.
+/// Upgrades. Given and found: as for `recover`.
 pub fn upgrade(alloc: Global, given: &str) -> Result<String, RowError> {
     let (line, log) = cut(given, "\n")?;
     let words = words_in(alloc, line)?;
@@ -235,7 +232,7 @@ pub fn upgrade(alloc: Global, given: &str) -> Result<String, RowError> {
     }
 }
 
-/// What `upgrade` says of the log on this device.
+/// The output of `upgrade` for this device's log.
 fn upgrade_device(alloc: Global, path: &str, mut device: MemDevice) -> Result<String, RowError> {
     let mut out = Vec::new(alloc);
     let mut err = Vec::new(alloc);
@@ -245,8 +242,7 @@ fn upgrade_device(alloc: Global, path: &str, mut device: MemDevice) -> Result<St
     }
 }
 
-/// A superblock that is shown. Given: the words of the program on a line, and a log as `log_rows` spells it, on a device in memory.
-/// Found: as of a run.
+/// Shown superblocks. Given and found: as for `recover`.
 pub fn show(alloc: Global, given: &str) -> Result<String, RowError> {
     let (line, log) = cut(given, "\n")?;
     let words = words_in(alloc, line)?;
@@ -256,7 +252,7 @@ pub fn show(alloc: Global, given: &str) -> Result<String, RowError> {
     }
 }
 
-/// What `show` says of the log on this device.
+/// The output of `show` for this device's log.
 fn show_device(alloc: Global, path: &str, mut device: MemDevice) -> Result<String, RowError> {
     let mut out = Vec::new(alloc);
     let mut err = Vec::new(alloc);
@@ -266,8 +262,8 @@ fn show_device(alloc: Global, path: &str, mut device: MemDevice) -> Result<Strin
     }
 }
 
-/// What the words of the program say. Given: the words. Found: the command with all that it is told, or what is said where they
-/// tell nothing to do: on which output, and the exit status.
+/// The program's words. Given: the words. Found: the command with all its values; or the answer to words that name no work, with its output
+/// and exit status.
 pub fn words(alloc: Global, given: &str) -> Result<String, RowError> {
     let words = words_in(alloc, given)?;
     match parse(alloc, &words) {
@@ -276,7 +272,6 @@ pub fn words(alloc: Global, given: &str) -> Result<String, RowError> {
     }
 }
 
-/// What words tell.
 fn told(alloc: Global, words: &Words<'_>) -> Result<String, RowError> {
     match words {
         Words::Run(words) => Ok(told_run(alloc, words)?),
@@ -291,19 +286,28 @@ fn told(alloc: Global, words: &Words<'_>) -> Result<String, RowError> {
         Words::Upgrade(log) => Ok(format!(in alloc; "upgrade {log}")?),
         Words::Apply(words) => Ok(told_apply(alloc, words)?),
         Words::Bench(words) => Ok(told_bench(alloc, words)?),
+        Words::Serve(words) => told_serve(alloc, words),
         Words::Completions(shell) => Ok(format!(in alloc; "completions {shell:?}")?),
         Words::Man => Ok(format!(in alloc; "man")?),
     }
 }
 
-/// What words tell `sweep`.
+fn told_serve(alloc: Global, words: &ServeWords<'_>) -> Result<String, RowError> {
+    let only = if words.read_only { ", read-only" } else { "" };
+    let mut text = format!(in alloc;
+        "serve {} {} export={}{only}",
+        words.paths.log, words.paths.home, words.export
+    )?;
+    push_wait(&mut text, words.wait)?;
+    Ok(text)
+}
+
 fn told_sweep(alloc: Global, words: &SweepWords<'_>) -> Result<String, RowError> {
     let fails = if words.fails { ", calls fail" } else { "" };
     let json = if words.json { ", json" } else { "" };
     Ok(format!(in alloc; "sweep {}{fails}{json}", words.script)?)
 }
 
-/// What words tell `run`.
 fn told_run(alloc: Global, words: &RunWords<'_>) -> Result<String, AllocError> {
     let mut text = format!(in alloc; "run {}", words.script)?;
     if let Some(call) = words.failing_call {
@@ -323,7 +327,7 @@ fn told_run(alloc: Global, words: &RunWords<'_>) -> Result<String, AllocError> {
     Ok(text)
 }
 
-/// Writes where a device is told to stop, and what it keeps.
+/// Writes where a device stops, and what it keeps.
 fn write_stop(text: &mut String, words: &StopWords) -> Result<(), AllocError> {
     match words.at_write {
         Some(k) => write!(text, ", stop {k}")?,
@@ -336,7 +340,6 @@ fn write_stop(text: &mut String, words: &StopWords) -> Result<(), AllocError> {
     Ok(())
 }
 
-/// What words tell `format`.
 fn told_format(alloc: Global, words: &FormatWords<'_>) -> Result<String, RowError> {
     let measures = measures_text(alloc, &words.measures)?;
     Ok(format!(in alloc;
@@ -348,7 +351,6 @@ fn told_format(alloc: Global, words: &FormatWords<'_>) -> Result<String, RowErro
     )?)
 }
 
-/// What words tell `dump`.
 fn told_dump(alloc: Global, words: &DumpWords<'_>) -> Result<String, AllocError> {
     let mut text = format!(in alloc; "dump {}", words.log)?;
     if words.damaged {
@@ -360,17 +362,17 @@ fn told_dump(alloc: Global, words: &DumpWords<'_>) -> Result<String, AllocError>
     Ok(text)
 }
 
-/// What words tell `cat`.
 fn told_cat(alloc: Global, words: &CatWords<'_>) -> Result<String, AllocError> {
-    format!(in alloc;
+    let mut text = format!(in alloc;
         "cat {} {} {}",
         words.paths.log, words.paths.home, words.block
-    )
+    )?;
+    push_wait(&mut text, words.wait)?;
+    Ok(text)
 }
 
-/// What words tell `recover`.
 fn told_recover(alloc: Global, words: &RecoverWords<'_>) -> Result<String, AllocError> {
-    format!(in alloc;
+    let mut text = format!(in alloc;
         "recover {} {}{}{}",
         words.paths.log,
         words.paths.home,
@@ -380,10 +382,12 @@ fn told_recover(alloc: Global, words: &RecoverWords<'_>) -> Result<String, Alloc
             ""
         },
         if words.dry_run { ", dry run" } else { "" }
-    )
+    )?;
+    push_wait(&mut text, words.wait)?;
+    Ok(text)
 }
 
-/// What is said of words that tell nothing to do.
+/// The answer to words that name no work.
 fn answered(alloc: Global, e: &clap::Error) -> Result<String, RowError> {
     let mut out = Vec::new(alloc);
     let mut err = Vec::new(alloc);
@@ -398,19 +402,28 @@ fn answered(alloc: Global, e: &clap::Error) -> Result<String, RowError> {
     }
 }
 
-/// What words tell `apply`.
 fn told_apply(alloc: Global, words: &ApplyWords<'_>) -> Result<String, AllocError> {
-    format!(in alloc;
-        "apply {} {} {}{}{}",
+    let mut text = format!(in alloc;
+        "apply {} {} {}{}{}{}",
         words.paths.log,
         words.paths.home,
         words.script,
         if words.stay { ", stay" } else { "" },
-        if words.keep_going { ", keep going" } else { "" }
-    )
+        if words.keep_going { ", keep going" } else { "" },
+        if words.make_room { ", make room" } else { "" }
+    )?;
+    push_wait(&mut text, words.wait)?;
+    Ok(text)
 }
 
-/// What words tell `bench`.
+/// Adds how long a command waits, if it does.
+fn push_wait(text: &mut String, seconds: u64) -> Result<(), AllocError> {
+    if seconds > 0 {
+        write!(text, ", wait {seconds}")?;
+    }
+    Ok(())
+}
+
 fn told_bench(alloc: Global, words: &BenchWords<'_>) -> Result<String, AllocError> {
     let mut text = format!(in alloc;
         "bench {} {}, copies {}",
@@ -428,11 +441,12 @@ fn told_bench(alloc: Global, words: &BenchWords<'_>) -> Result<String, AllocErro
     if words.csv {
         text.push_str(", csv")?;
     }
+    push_wait(&mut text, words.wait)?;
     Ok(text)
 }
 
-/// What is said of words that tell nothing to do. Given: the words. Found: the first line of it, and that of the usage, where `(`
-/// and `)` stand for angle brackets.
+/// Answers to words that name no work. Given: the words. Found: the answer's first line, and that of the usage; `(` and `)` stand for angle
+/// brackets.
 pub fn usages(alloc: Global, given: &str) -> Result<String, RowError> {
     let words = words_in(alloc, given)?;
     match parse(alloc, &words) {
@@ -444,7 +458,7 @@ pub fn usages(alloc: Global, given: &str) -> Result<String, RowError> {
     }
 }
 
-/// The first line of a text, and each that begins with the word of a usage.
+/// A text's first line, and each line that begins with the word of a usage.
 fn first_and_usage(alloc: Global, text: &str) -> Result<String, AllocError> {
     let mut lines = String::new(alloc);
     for (i, line) in text.lines().enumerate() {
@@ -467,8 +481,7 @@ fn push_line(lines: &mut String, line: &str) -> Result<(), AllocError> {
     lines.push('\n')
 }
 
-/// The operations that a help text has. Given: the words that ask for it. Found: each operation in the form that stands at the
-/// front of its line.
+/// The operations in a help text. Given: the words that ask for it. Found: each operation in the form at the front of its line.
 pub fn help(alloc: Global, given: &str) -> Result<String, RowError> {
     let words = words_in(alloc, given)?;
     match parse(alloc, &words) {
@@ -480,7 +493,7 @@ pub fn help(alloc: Global, given: &str) -> Result<String, RowError> {
     }
 }
 
-/// The lists in brackets at the front of lines of this text.
+/// The lists in brackets at the front of this text's lines.
 fn forms_in(alloc: Global, text: &str) -> Result<String, AllocError> {
     let mut forms = String::new(alloc);
     for line in text.lines() {
@@ -493,8 +506,8 @@ fn forms_in(alloc: Global, text: &str) -> Result<String, AllocError> {
     Ok(forms)
 }
 
-/// What shells and `man` are told. Given: the words of the program on a line, and a text. Found: the printed lines that have that text,
-/// without the blanks in front.
+/// Texts for shells and `man`. Given: the program's words on a line, and a text. Found: the printed lines with that text, without the
+/// blanks in front.
 pub fn printed(alloc: Global, given: &str) -> Result<String, RowError> {
     let (line, wanted) = cut(given, "\n")?;
     let words = words_in(alloc, line)?;
@@ -510,7 +523,7 @@ pub fn printed(alloc: Global, given: &str) -> Result<String, RowError> {
     }
 }
 
-/// The lines that have this text, without the blanks in front.
+/// The lines with this text, without the blanks in front.
 fn lines_with(alloc: Global, text: &str, wanted: &str) -> Result<String, AllocError> {
     let mut lines = String::new(alloc);
     for line in text.lines() {
@@ -521,7 +534,7 @@ fn lines_with(alloc: Global, text: &str, wanted: &str) -> Result<String, AllocEr
     Ok(lines)
 }
 
-/// The words of a line, which blanks separate. A word between quotes may have blanks, or nothing.
+/// The words of a line, separated by blanks. A word in quotes may have blanks, or be empty.
 pub(crate) fn words_in(alloc: Global, line: &str) -> Result<Vec<&str>, AllocError> {
     let mut words = Vec::new(alloc);
     for (i, part) in line.split('\'').enumerate() {
@@ -542,7 +555,7 @@ fn push_words<'a>(words: &mut Vec<&'a str>, text: &'a str) -> Result<(), AllocEr
     Ok(())
 }
 
-/// What a command wrote on standard output and standard error, and its exit status.
+/// A command's standard output and standard error, and its exit status.
 pub(crate) fn text_of(
     alloc: Global,
     out: &[u8],
@@ -557,7 +570,7 @@ pub(crate) fn text_of(
     Ok(text)
 }
 
-/// The exit status of a command that ended so.
+/// The exit status of a command.
 fn exit_status(status: Status) -> u8 {
     match status {
         Status::Fine => 0,

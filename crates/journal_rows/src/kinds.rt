@@ -1,4 +1,4 @@
-//! What may be done with a row, by the name of its kind.
+//! Finds a row's function by the name of its kind.
 use crate::{benches, commands, views};
 use format_rows::RowError;
 use run_rows::journals::{Alone, Runner, Shared};
@@ -7,10 +7,10 @@ use std::alloc::Global;
 use std::sync::Wait;
 use sweep_rows::shared::SharedJournal;
 
-/// What is found of a row's given text, or that it can't be read, or that memory ran out.
+/// A row's result; or its text is malformed, or memory ran out.
 pub type Found = Result<String, RowError>;
 
-/// What is found of a row of this kind, or nothing where there is no such kind.
+/// The result of a row of this kind; `None` if there is no such kind.
 pub fn found<R: Wait>(rt: &R, alloc: Global, kind: &str, given: &str) -> Option<Found> {
     if let Some(found) = found_over_both(rt, alloc, kind, given) {
         return Some(found);
@@ -30,7 +30,7 @@ pub fn found<R: Wait>(rt: &R, alloc: Global, kind: &str, given: &str) -> Option<
     found_of_format(alloc, kind, given)
 }
 
-/// What is found of a row on runs over the journal of one thread and over the one that threads share, each by itself.
+/// The result of a row on runs, over the journal of one thread and over a shared one.
 fn found_over_both<R: Wait>(rt: &R, alloc: Global, kind: &str, given: &str) -> Option<Found> {
     let alone = found_over(alloc, &Alone, kind, given).or(swept(alloc, &ThisJournal, kind, given));
     let Some(alone) = alone else {
@@ -48,7 +48,7 @@ fn found_over_both<R: Wait>(rt: &R, alloc: Global, kind: &str, given: &str) -> O
     }
 }
 
-/// What was found over both journals: the same text.
+/// The result over both journals, once if both are the same.
 pub(crate) fn both(alloc: Global, alone: Found, shared: Found) -> Found {
     let (alone, shared) = (alone?, shared?);
     if alone.as_str() == shared.as_str() {
@@ -57,7 +57,7 @@ pub(crate) fn both(alloc: Global, alone: Found, shared: Found) -> Found {
     Ok(format!(in alloc; "{alone}\nover the journal that threads share:\n{shared}")?)
 }
 
-/// What is found of a row on runs over this journal.
+/// The result of a row on runs over this journal.
 fn found_over<J: Runner>(alloc: Global, journal: &J, kind: &str, given: &str) -> Option<Found> {
     match kind {
         "bytes" => Some(run_rows::changed::bytes(alloc, journal, given)),
@@ -72,7 +72,7 @@ fn found_over<J: Runner>(alloc: Global, journal: &J, kind: &str, given: &str) ->
     }
 }
 
-/// What is found of a row on sweeps of this journal.
+/// The result of a row on sweeps of this journal.
 fn swept<J: Swept>(alloc: Global, journal: &J, kind: &str, given: &str) -> Option<Found> {
     match kind {
         "failure_sweeps" => Some(sweep_rows::sweeps::failure_sweeps(alloc, journal, given)),
@@ -81,7 +81,7 @@ fn swept<J: Swept>(alloc: Global, journal: &J, kind: &str, given: &str) -> Optio
     }
 }
 
-/// What is found of another row on runs and scripts.
+/// The result of another row on runs and scripts.
 fn found_of_run(alloc: Global, kind: &str, given: &str) -> Option<Found> {
     match kind {
         "closes" => Some(run_rows::closes::closes(alloc, given)),
@@ -95,7 +95,7 @@ fn found_of_run(alloc: Global, kind: &str, given: &str) -> Option<Found> {
     }
 }
 
-/// What is found of a row on the commands of `jbench` and its words.
+/// The result of a row on the commands of `jbench` and its words.
 fn found_of_command<R: Wait>(rt: &R, alloc: Global, kind: &str, given: &str) -> Option<Found> {
     match kind {
         "bench" => Some(benches::bench(alloc, given)),
@@ -116,7 +116,7 @@ fn found_of_command<R: Wait>(rt: &R, alloc: Global, kind: &str, given: &str) -> 
     }
 }
 
-/// What is found of a row on logs and devices.
+/// The result of a row on logs and devices.
 fn found_of_log(alloc: Global, kind: &str, given: &str) -> Option<Found> {
     match kind {
         "chains" => Some(log_rows::chains(alloc, given)),
@@ -133,7 +133,7 @@ fn found_of_log(alloc: Global, kind: &str, given: &str) -> Option<Found> {
     }
 }
 
-/// What is found of a row on openings.
+/// The result of a row on openings.
 fn found_of_opening(alloc: Global, kind: &str, given: &str) -> Option<Found> {
     match kind {
         "changed_bytes" => Some(opening_rows::changed_bytes(alloc, given)),
@@ -152,7 +152,7 @@ fn found_of_opening(alloc: Global, kind: &str, given: &str) -> Option<Found> {
     }
 }
 
-/// What is found of a row on blocks, the ring and layouts.
+/// The result of a row on blocks, the ring and layouts.
 fn found_of_format(alloc: Global, kind: &str, given: &str) -> Option<Found> {
     match kind {
         "allowed_blocks" => Some(format_rows::allowed_blocks(alloc, given)),

@@ -1,10 +1,9 @@
-//! Examples as rows of data: does what each row of the files says that the program is told of, over the public functions of the
-//! crates, and prints for each file how many of its rows held and each row that did not.
+//! Checks examples in files of rows: it does what each row gives by public functions of the crates, and prints how many of a file's rows
+//! held, and each row that did not.
 //!
-//! `row_file` reads a file of rows, `repetition` writes out what a row says more than once, `kinds` knows what may be done with
-//! a row, and `report` compares what is found with what is wanted. Rows of blocks, logs, openings and runs are done by the
-//! crates `format_rows`, `log_rows`, `opening_rows`, `run_rows` and `sweep_rows`; those of the commands of `jbench` and its
-//! words by `commands`, and of those that look something up in a log by `views`.
+//! `row_file` reads a file of rows, `repetition` expands a row's repetitions, `kinds` finds a row's function, and `report` compares the
+//! result with the wanted one. `format_rows`, `log_rows`, `opening_rows`, `run_rows` and `sweep_rows` have the functions for blocks, logs,
+//! openings and runs; `commands` those for commands of `jbench`, and `views` those for its look-ups.
 #![tactic(auto)]
 
 mod benches;
@@ -28,7 +27,7 @@ fn main(rt: HostRuntime) -> ExitCode {
     }
 }
 
-/// Does the rows of each file that a word names, and prints what was found. The answer is whether all could be done.
+/// Checks each file that the words name, and prints the results; false if one could not be checked.
 fn check_files<W: Wait>(rt: &HostRuntime, waits: &W) -> io::Result<bool> {
     let words: Vec<String> = env::args(rt)?.collect(rt.alloc())?;
     let mut is_whole = true;
@@ -38,7 +37,7 @@ fn check_files<W: Wait>(rt: &HostRuntime, waits: &W) -> io::Result<bool> {
     Ok(is_whole)
 }
 
-/// Does the rows of one file, and prints what was found. The answer is whether all could be done.
+/// Checks one file, and prints the result; false if it could not be checked.
 fn check_file<W: Wait>(rt: &HostRuntime, waits: &W, name: &str) -> io::Result<bool> {
     match fs::read_to_string(rt, name) {
         Ok(text) => print_report(rt, waits, name, text.as_str()),
@@ -46,7 +45,7 @@ fn check_file<W: Wait>(rt: &HostRuntime, waits: &W, name: &str) -> io::Result<bo
     }
 }
 
-/// Prints what was found of the rows of a text.
+/// Prints the result of a text's rows.
 fn print_report<W: Wait>(rt: &HostRuntime, waits: &W, name: &str, text: &str) -> io::Result<bool> {
     match report_of(waits, rt.alloc(), name, text) {
         Ok(report) => {
@@ -62,7 +61,7 @@ fn print_report<W: Wait>(rt: &HostRuntime, waits: &W, name: &str, text: &str) ->
     }
 }
 
-/// Says why the rows of a file can't be done.
+/// Prints why a file's rows cannot be checked.
 fn print_failure(rt: &HostRuntime, name: &str, why: &str) -> io::Result<bool> {
     println!(rt; "{name}: {why}")?;
     Ok(false)

@@ -1,16 +1,16 @@
-//! What stands in a row more than once.
+//! Expands repetitions in a row.
 use format_rows::RowError;
 use format_rows::words::cut;
 use run_rows::texts::numbers_in;
 use std::alloc::Global;
 use std::fmt::Write;
 
-/// The text with its repetitions written out. A repetition is `<2 4 1|#=@ >`, which is here `2=3 3=4 4=5 `: the text behind the
-/// bar for each number from 2 to 4, which stands for `#`, and the number that is 1 more, for `@`, or for `$` in base 16.
+/// The text with its repetitions expanded. `<2 4 1|#=@ >` gives `2=3 3=4 4=5 `: the text after the bar for each number from 2 to 4, with
+/// the number for `#`, the number plus 1 for `@`, and that in base 16 for `$`.
 ///
 /// # Errors
 ///
-/// `Unread` where a `<` begins no repetition; `Memory`.
+/// `Unread`: a `<` begins no repetition. `Memory`.
 pub fn written_out(alloc: Global, text: &str) -> Result<String, RowError> {
     let mut all = String::new(alloc);
     let mut parts = text.split('<');
@@ -23,7 +23,7 @@ pub fn written_out(alloc: Global, text: &str) -> Result<String, RowError> {
     Ok(all)
 }
 
-/// Writes a repetition, which is `first last more|text`.
+/// Writes a repetition, spelled `first last more|text`.
 fn write_repetition(all: &mut String, repetition: &str) -> Result<(), RowError> {
     let (line, text) = cut(repetition, "|")?;
     let [first, last, more] = numbers_in::<3>(line)?;
@@ -33,7 +33,7 @@ fn write_repetition(all: &mut String, repetition: &str) -> Result<(), RowError> 
     Ok(())
 }
 
-/// Writes the text with this number for each `#`, the other one for each `@`, and that as two digits of base 16 for each `$`.
+/// Writes the text with this number for `#`, the other for `@`, and that as two hex digits for `$`.
 fn write_numbered(all: &mut String, text: &str, number: u64, other: u64) -> Result<(), RowError> {
     for c in text.chars() {
         match c {

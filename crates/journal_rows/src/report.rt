@@ -1,4 +1,4 @@
-//! Does the rows of a file, and tells which of them did not hold.
+//! Checks the rows of a file, and reports which did not hold.
 use crate::kinds::{Found, found};
 use crate::repetition::written_out;
 use crate::row_file::{Row, RowFile, read};
@@ -7,30 +7,30 @@ use std::alloc::{AllocError, Global};
 use std::fmt::Write;
 use std::sync::Wait;
 
-/// What is told of a file.
+/// The report on a file.
 #[derive(Drop)]
 pub struct Report {
-    /// The lines to be printed.
+    /// The lines to print.
     pub lines: String,
-    /// Whether each row could be done.
+    /// Whether each row could be checked.
     pub is_whole: bool,
 }
 
-/// What was found of the rows of a file.
+/// The results of a file's rows.
 #[derive(Drop)]
 struct Findings {
     held: u64,
-    /// Lines on the other rows.
+    /// Lines on the rows that did not hold.
     others: String,
     is_whole: bool,
 }
 
-/// Does the rows of a file with this name and this text: a line with its name and how many of its rows held, and below it the
-/// name, the wanted and the found text of each that did not.
+/// Checks the rows of a file with this name and text. The report has a line with the name and how many rows held; then the name, wanted and
+/// found text of each other row.
 ///
 /// # Errors
 ///
-/// `Unread` where the text is no file of rows, or its kind is not known; `Memory`.
+/// `Unread`: the text is no file of rows, or its kind is unknown. `Memory`.
 pub fn report_of<R: Wait>(
     rt: &R,
     alloc: Global,
@@ -47,7 +47,6 @@ pub fn report_of<R: Wait>(
     })
 }
 
-/// Does the rows of a file.
 fn findings_of<R: Wait>(rt: &R, alloc: Global, file: &RowFile<'_>) -> Result<Findings, RowError> {
     let mut findings = Findings {
         held: 0,
@@ -60,7 +59,7 @@ fn findings_of<R: Wait>(rt: &R, alloc: Global, file: &RowFile<'_>) -> Result<Fin
     Ok(findings)
 }
 
-/// Does one row, and notes what came of it.
+/// Checks one row, and notes the result.
 fn check_row<R: Wait>(
     rt: &R,
     alloc: Global,
@@ -74,7 +73,7 @@ fn check_row<R: Wait>(
     note(findings, row.name, wanted.as_str(), found)
 }
 
-/// Notes what was found of a row.
+/// Notes a row's result.
 fn note(findings: &mut Findings, name: &str, wanted: &str, found: Found) -> Result<(), RowError> {
     match found {
         Ok(found) if found.trim_end() == wanted.trim_end() => {
@@ -103,7 +102,7 @@ fn write_other(
     write_indented(others, found)
 }
 
-/// Writes lines behind blanks.
+/// Writes indented lines.
 fn write_indented(others: &mut String, text: &str) -> Result<(), AllocError> {
     for line in text.lines() {
         writeln!(others, "      {line}")?;

@@ -1,10 +1,10 @@
-//! The form of a file of rows: lines that begin with `#`, a line `rows KIND`, and its rows. A long row is a line `== NAME`, what
-//! is given, a line `-->` and what is wanted. Or each row is a line `NAME: GIVEN --> WANTED`.
+//! Reads a file of rows: lines that begin with `#`, a line `rows KIND`, then the rows. A long row is a line `== NAME`, what is given, a
+//! line `-->`, and what is wanted. A short row is a line `NAME: GIVEN --> WANTED`.
 use format_rows::RowError;
 use format_rows::words::cut;
 use std::alloc::{AllocError, Global};
 
-/// A row: what is done with the given text is to be the wanted one.
+/// A row: the function of its kind must turn the given text into the wanted one.
 #[derive(Clone, Copy)]
 pub struct Row<'a> {
     pub name: &'a str,
@@ -12,21 +12,19 @@ pub struct Row<'a> {
     pub wanted: &'a str,
 }
 
-/// A file of rows.
 #[derive(Drop)]
 pub struct RowFile<'a> {
-    /// What is done with each row.
+    /// The kind of the rows.
     pub kind: &'a str,
-    /// The rows, in their order.
+    /// The rows, in order.
     pub rows: Vec<Row<'a>>,
 }
 
-/// The file of this text.
+/// Reads a file of rows.
 ///
 /// # Errors
 ///
-/// `Unread` where nothing at its head says what its rows show, where it has no line with their kind, or where a row has no name
-/// or no arrow; `Memory`.
+/// `Unread`: no line at the front says what the rows show, no line has their kind, or a row has no name or no arrow. `Memory`.
 pub fn read<'a>(alloc: Global, text: &'a str) -> Result<RowFile<'a>, RowError> {
     let (head, behind) = cut(text, "\nrows ")?;
     if !head.lines().all(|line| line.starts_with('#')) {
@@ -37,7 +35,7 @@ pub fn read<'a>(alloc: Global, text: &'a str) -> Result<RowFile<'a>, RowError> {
     Ok(RowFile { kind, rows })
 }
 
-/// The rows of a file, which are all long or all short.
+/// A file's rows, which are all long or all short.
 fn rows_of<'a>(alloc: Global, body: &'a str) -> Result<Vec<Row<'a>>, RowError> {
     match body.strip_prefix("== ") {
         Some(long) => long_rows(alloc, long),
@@ -45,7 +43,7 @@ fn rows_of<'a>(alloc: Global, body: &'a str) -> Result<Vec<Row<'a>>, RowError> {
     }
 }
 
-/// Long rows, the first of which begins with its name.
+/// Long rows; the first begins with its name.
 fn long_rows<'a>(alloc: Global, body: &'a str) -> Result<Vec<Row<'a>>, RowError> {
     let mut rows = Vec::new(alloc);
     for part in body.split("\n== ") {
@@ -55,12 +53,11 @@ fn long_rows<'a>(alloc: Global, body: &'a str) -> Result<Vec<Row<'a>>, RowError>
     Ok(rows)
 }
 
-/// Adds a row.
 fn push<'a>(rows: &mut Vec<Row<'a>>, row: Row<'a>) -> Result<(), AllocError> {
     Ok(rows.push(row)?)
 }
 
-/// Rows of one line each, with blank lines at will.
+/// Rows of one line each; blank lines may come between.
 fn short_rows<'a>(alloc: Global, body: &'a str) -> Result<Vec<Row<'a>>, RowError> {
     let mut rows = Vec::new(alloc);
     for line in body.lines() {
@@ -72,7 +69,7 @@ fn short_rows<'a>(alloc: Global, body: &'a str) -> Result<Vec<Row<'a>>, RowError
     Ok(rows)
 }
 
-/// The row with this name, and behind it its texts with the arrow between them.
+/// The row with this name, from its texts with the arrow between them.
 fn row_of<'a>(name: &'a str, texts: &'a str) -> Result<Row<'a>, RowError> {
     let (given, wanted) = cut(texts, "-->")?;
     if name.trim().is_empty() {

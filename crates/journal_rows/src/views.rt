@@ -9,11 +9,10 @@ use jbench_words::words::{CatWords, DumpWords, Words, parse};
 use std::alloc::Global;
 use std::fmt::Write;
 
-/// How many bytes of a block are told.
+/// How many bytes of a block are printed.
 const TOLD: usize = 8;
 
-/// What is looked up in a log. Given: the words of the program on a line, and a log as `log_rows` spells it, on a device in memory. Found:
-/// as of a run; of a block its first bytes in hex, and how many it has.
+/// Look-ups in a log. Given and found: as for `recover`; for a block, its first bytes in hex and its length.
 pub fn looked(alloc: Global, given: &str) -> Result<String, RowError> {
     let (line, log) = cut(given, "\n")?;
     let words = words_in(alloc, line)?;
@@ -25,7 +24,7 @@ pub fn looked(alloc: Global, given: &str) -> Result<String, RowError> {
     }
 }
 
-/// What `dump` says of the log on this device.
+/// The output of `dump` for this device's log.
 fn dumped(alloc: Global, words: &DumpWords<'_>, device: MemDevice) -> Result<String, RowError> {
     let mut device = device;
     let mut out = Vec::new(alloc);
@@ -36,7 +35,7 @@ fn dumped(alloc: Global, words: &DumpWords<'_>, device: MemDevice) -> Result<Str
     }
 }
 
-/// What `cat` says of the log on this device.
+/// The output of `cat` for this device's log.
 fn block_of(alloc: Global, words: &CatWords<'_>, device: MemDevice) -> Result<String, RowError> {
     let mut device = device;
     let mut out = Vec::new(alloc);
@@ -51,7 +50,7 @@ fn block_of(alloc: Global, words: &CatWords<'_>, device: MemDevice) -> Result<St
     }
 }
 
-/// The first bytes of a block, and how many it has.
+/// A block's first bytes and its length.
 fn first_bytes(alloc: Global, block: &[u8]) -> Result<String, RowError> {
     let mut text = String::new(alloc);
     for byte in block.iter().take(TOLD) {

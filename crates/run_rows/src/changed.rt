@@ -1,6 +1,6 @@
-//! Rows of runs over logs that were changed by hand, and of the bytes that runs leave.
+//! Rows of runs over hand-changed logs, and of the bytes that runs leave.
 //!
-//! Bytes are spelled like `log 3 from 8: 00000002`: these, from place 8 of block 3 of the log on. `home` names the home area.
+//! `log 3 from 8: 00000002` spells these bytes at byte 8 of log block 3 and after; `home` names the home area.
 use crate::journals::Runner;
 use crate::scripts::given_script;
 use crate::texts::{write_hex, written};
@@ -14,9 +14,8 @@ use script_run::{Fault, RunDevice, Stopped, empty_disk, judge, run_device};
 use std::alloc::{AllocError, Global};
 use std::fmt::Write;
 
-/// A run over a log changed by hand, whose image is changed by hand again. Given: lines of bytes for the formatted log, a line `run`, a
-/// script on one line, and lines of bytes for the image. Found: the lines of the run and of the verdict, and the verdict as an answer, or
-/// the refusal.
+/// Runs over a log changed by hand, and changes the image by hand. Given: lines of bytes for the formatted log, a line `run`, a script on
+/// one line, and lines of bytes for the image. Found: the lines of the run and of the verdict; the verdict or the refusal.
 pub fn changed<J: Runner>(alloc: Global, journal: &J, given: &str) -> Result<String, RowError> {
     let (before, behind) = cut(given, "run\n")?;
     let (text, after) = behind.split_once('\n').unwrap_or((behind, ""));
@@ -37,7 +36,7 @@ fn write_answer(found: &mut String, answer: Answer) -> Result<(), AllocError> {
     }
 }
 
-/// A call whose output fails only for lack of memory.
+/// The answer of a call whose output fails only if memory runs out.
 fn answer_of<T: Drop>(answer: Result<T, Fault>) -> Result<Result<T, JournalError>, RowError> {
     match answer {
         Ok(value) => Ok(Ok(value)),
@@ -46,7 +45,7 @@ fn answer_of<T: Drop>(answer: Result<T, Fault>) -> Result<Result<T, JournalError
     }
 }
 
-/// Runs a script over its log with the bytes `before`, and judges the image with the bytes `after`.
+/// Runs a script over its log with the bytes `before`, then judges the image with the bytes `after`.
 fn run_changed<J: Runner>(
     alloc: Global,
     journal: &J,
@@ -104,7 +103,7 @@ fn judge_changed(
     answer_of(judge(alloc, changed, &[], &named, out))
 }
 
-/// The device with the bytes of these lines, durably; its writes are numbered from 1 again.
+/// The device with the bytes of these lines, durable; its writes are numbered from 1 again.
 fn with_bytes(alloc: Global, mut device: MemDevice, lines: &str) -> Result<MemDevice, RowError> {
     for line in lines.lines() {
         write_line(alloc, &mut device, line)?;
@@ -178,8 +177,8 @@ fn block_of(
     }
 }
 
-/// The bytes that a run leaves. Given: a script on one line, and lines that name blocks, like `log 3`, or bytes of them, like `log 3 from 8
-/// for 4`. Found: these lines with the device's bytes after the run; after a line `opened`, with those after a crash and an opening.
+/// The bytes that a run leaves. Given: a script on one line, and lines that name a block, like `log 3`, or some bytes of it, like `log 3
+/// from 8 for 4`. Found: these lines with the device's bytes after the run; those after a line `opened` show a crash and an opening.
 pub fn bytes<J: Runner>(alloc: Global, journal: &J, given: &str) -> Result<String, RowError> {
     let (text, lines) = cut(given, "\n")?;
     let script = given_script(alloc, text)?;
@@ -238,7 +237,7 @@ fn write_named(
     write_part(all, &bytes, part)
 }
 
-/// Writes the bytes of a text like `8 for 4`, as far as there are any.
+/// Writes the bytes of a text like `8 for 4`; the block's end cuts them.
 fn write_part(all: &mut String, block: &[u8], part: &str) -> Result<(), RowError> {
     let (from, count) = cut(part, " for ")?;
     let from = number(from)? as usize;
@@ -251,7 +250,7 @@ fn write_part(all: &mut String, block: &[u8], part: &str) -> Result<(), RowError
     }
 }
 
-/// Writes hex digits; counts more than eight zeros at the end instead.
+/// Writes hex digits; more than eight zeros at the end are counted instead.
 fn write_bytes(all: &mut String, bytes: &[u8]) -> Result<(), AllocError> {
     let used = bytes
         .iter()

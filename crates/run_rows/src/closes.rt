@@ -1,4 +1,4 @@
-//! Rows of journals that are closed.
+//! Rows of closes of a journal.
 use crate::closing::{Closed, Fault, close_after};
 use crate::endings::{Ending, endings_text, in_one_line, kept, note};
 use crate::texts::{numbers_in, written};
@@ -10,11 +10,11 @@ use script_run::{Record, Stopped, judge};
 use std::alloc::Global;
 use std::fmt::Write;
 
-/// Journals that are closed. Given: steps with ` | ` between them. The first says at which write of the journal the device stops, like
-/// `stop 4`, or which of its calls fails, like `fail 7`; 0 is none. Each other one is: the writes of a handle, which then stops, like `9=11
-/// 10=22`, home blocks with their first byte; the same followed by `, request`, which requests a commit; or commit or checkpoint turns,
-/// like `turns 3` or `checks 2`. Found: the close's answer; how many transactions were sealed and committed, and how many writes were made;
-/// after a loss of power, the dump of the log, what an opening finds, and the verdict; and how many writes that opening made.
+/// Closes a journal after some steps. Given: steps with ` | ` between them. The first is the fault: `stop 4` stops the device at the
+/// journal's fourth write, `fail 7` makes its seventh call fail, 0 is none. Each other step is a handle's writes, like `9=11 10=22` (home
+/// block and first byte), after which it stops; the same with `, request`, which requests a commit; or commit or checkpoint turns, like
+/// `turns 3` or `checks 2`. Found: the close's answer; the counts of sealed and committed transactions and of writes; after a crash, the
+/// log's dump, the opening's report and the verdict; that opening's writes.
 pub fn closes(alloc: Global, given: &str) -> Result<String, RowError> {
     let (first, steps) = given.split_once(" | ").unwrap_or((given, ""));
     let fault = fault_of(first)?;
@@ -36,10 +36,9 @@ pub fn closes(alloc: Global, given: &str) -> Result<String, RowError> {
     Ok(told)
 }
 
-/// Journals that are closed over a device that stops at each write, or of which each call fails. Given: steps as for `closes`, the first a
-/// line like `stops 1 to 8, any of the last 2 writes kept`, or `fails 1 to 14` with the same after it. Found: each way in which the closes
-/// end (what is answered, sealed and committed, what an opening finds, the written blocks and the verdict), with the stops or failing calls
-/// that lead to it.
+/// Closes with a stop at each write, or with each call failing. Given: steps as for `closes`. The first step is like `stops 1 to 8, any of
+/// the last 2 writes kept`, or `fails 1 to 14` with the same after it. Found: each ending (answer, sealed, committed, the opening's report,
+/// written blocks, verdict), with the stops or failing calls that lead to it.
 pub fn interrupted_closes(alloc: Global, given: &str) -> Result<String, RowError> {
     let (line, steps) = cut(given, " | ")?;
     let [first, last, back] = numbers_in::<3>(line)?;
@@ -57,7 +56,7 @@ pub fn interrupted_closes(alloc: Global, given: &str) -> Result<String, RowError
     Ok(endings_text(alloc, &endings, places)?)
 }
 
-/// Adds how closes with this fault end, for each choice of the last `back` writes.
+/// Adds the endings of closes with this fault, for each choice of the last `back` writes.
 fn add_closes(
     alloc: Global,
     fault: Fault,
@@ -78,7 +77,7 @@ fn add_closes(
     Ok(())
 }
 
-/// How a close ends if the device then loses power and keeps these writes.
+/// How a close ends if the device then crashes and keeps these writes.
 fn ending_of(alloc: Global, closed: Closed, kept: &[u64]) -> Result<String, RowError> {
     let mut told = String::new(alloc);
     write!(
@@ -112,8 +111,8 @@ fn writes_of_opening(alloc: Global, closed: Closed) -> Result<u64, RowError> {
     }
 }
 
-/// The lines of the verdict after a close and a loss of power that keeps these writes, and whether it is right. Committed transactions
-/// count as acknowledged.
+/// The verdict's lines, and whether it is right, if the device crashes after a close and keeps these writes. Committed transactions count
+/// as acknowledged.
 fn judged(alloc: Global, closed: Closed, kept: &[u64]) -> Result<(String, bool), RowError> {
     let Closed {
         answer: _,

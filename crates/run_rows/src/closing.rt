@@ -14,24 +14,22 @@ use std::alloc::{AllocError, Global};
 /// A fault of a journal's device.
 #[derive(Clone, Copy)]
 pub enum Fault {
-    /// It stops at this write of the journal; 0 is none.
+    /// Stops at this write of the journal; 0 is none.
     Stop(u64),
-    /// This call for the journal fails; 0 is none.
+    /// Fails this call for the journal; 0 is none.
     Fail(u64),
 }
 
 type FaultyDevice = FailOnce<StopAt<MemDevice>>;
 
-/// What is left of a journal that was closed.
+/// What a closed journal leaves.
 #[derive(Drop)]
 pub struct Closed {
-    /// The close's answer.
     pub answer: String,
-    /// The sealed transactions.
     pub sealed: Vec<Sealed>,
-    /// How many of them are committed.
+    /// How many sealed transactions are committed.
     pub committed: u64,
-    /// The device, with its cache.
+    /// With its cache.
     pub device: MemDevice,
     /// The home blocks that handles wrote.
     pub named: NamedBlocks,
@@ -44,11 +42,11 @@ struct User {
     named: NamedBlocks,
 }
 
-/// Closes a journal after these steps, on a new log of 33 blocks of 1024 bytes, with 64 home blocks.
+/// Closes a journal after these steps, over a new log of 33 blocks and 64 home blocks, of 1024 bytes each.
 ///
 /// # Errors
 ///
-/// `Unread`: a step is none, or can't be made. `Memory`.
+/// `Unread`: a step is malformed or cannot be made. `Memory`.
 pub fn close_after(alloc: Global, fault: Fault, steps: &str) -> Result<Closed, RowError> {
     let mut user = User {
         journal: new_journal(alloc, fault)?,
@@ -110,7 +108,7 @@ fn opened(alloc: Global, stop: u64, fail: u64) -> Result<Opened<FaultyDevice>, R
     open(alloc, device).ok().ok_or(RowError::Memory)
 }
 
-/// Makes one step. Refused turns are passed over.
+/// Makes one step; refused turns are skipped.
 fn make_step(alloc: Global, user: &mut User, step: &str) -> Result<(), RowError> {
     if let Some(count) = step.strip_prefix("turns ") {
         for _ in 0..number(count)? {
@@ -130,7 +128,7 @@ fn make_step(alloc: Global, user: &mut User, step: &str) -> Result<(), RowError>
     write_and_stop(alloc, user, step)
 }
 
-/// Lets a handle write its blocks and stop; requests a commit if the step says so.
+/// Makes a handle write its blocks and stop; requests a commit if the step says so.
 fn write_and_stop(alloc: Global, user: &mut User, step: &str) -> Result<(), RowError> {
     let (writes, request) = match step.strip_suffix(", request") {
         Some(writes) => (writes, true),
@@ -181,7 +179,7 @@ fn write_all(
     Ok(())
 }
 
-/// A block that begins with one byte, then zeros.
+/// A block that begins with this byte, then zeros.
 fn block_of(alloc: Global, size: usize, first: u8) -> Result<Vec<u8>, AllocError>
     ensures { IfOk result (λ block. length block.items ≡ size) }
 {

@@ -1,4 +1,4 @@
-//! Gathers the ways in which interrupted runs end.
+//! Groups interrupted runs by how they end.
 use crate::scripts::given_script;
 use crate::texts::numbers_in;
 use format_rows::RowError;
@@ -7,24 +7,23 @@ use journal_script::Script;
 use std::alloc::{AllocError, Global};
 use std::fmt::Write;
 
-/// What a row gives.
+/// A row's interruptions and script.
 #[derive(Drop)]
 pub struct Given {
-    /// The script.
     pub script: Script,
     /// The first place of an interruption.
     pub first: u64,
     /// The last one.
     pub last: u64,
-    /// How many choices there are of the last writes that are kept.
+    /// The number of choices of the last writes to keep.
     pub choices: u64,
 }
 
-/// Reads a row: a line with the three numbers, and the script.
+/// Reads a row: a line with three numbers, then the script.
 ///
 /// # Errors
 ///
-/// `Unread`: more than the last 8 writes may be kept, or the text is no script. `Memory`.
+/// `Unread`: more than 8 last writes may be kept, or the text is no script. `Memory`.
 pub fn given_of(alloc: Global, given: &str) -> Result<Given, RowError> {
     let (line, text) = cut(given, "\n")?;
     let [first, last, back] = numbers_in::<3>(line)?;
@@ -39,18 +38,18 @@ pub fn given_of(alloc: Global, given: &str) -> Result<Given, RowError> {
     })
 }
 
-/// A way in which runs end, and where these are interrupted.
+/// One ending, and the interruptions that lead to it.
 #[derive(Drop)]
 pub struct Ending {
-    /// What an opening finds, the named blocks, and the verdict.
+    /// The opening's report, the named blocks, and the verdict.
     text: String,
-    /// The series of places after which runs end so, each by its first and last.
+    /// Series of places after which runs end so, each by its first and last.
     places: Vec<(u64, u64)>,
-    /// Whether a run without an interruption ends so.
+    /// Whether an uninterrupted run ends so.
     is_of_end: bool,
 }
 
-/// The last writes up to `k` whose bit is set, the last one first.
+/// The writes up to `k` whose bit is set, the last write first; bit 0 is write `k`.
 pub fn kept(alloc: Global, k: u64, bits: u64) -> Result<Vec<u64>, AllocError> {
     let mut kept = Vec::new(alloc);
     for back in 0..8 {
@@ -107,7 +106,7 @@ fn add_number(series: &mut Vec<(u64, u64)>, k: u64) -> Result<(), AllocError> {
     }
 }
 
-/// The lines of all endings, with this word for the places.
+/// The lines of all endings; this word names the places.
 pub fn endings_text(alloc: Global, endings: &[Ending], places: &str) -> Result<String, AllocError> {
     let mut all = String::new(alloc);
     for ending in endings {

@@ -13,8 +13,8 @@ use script_run::{Fault, Stop, Stops};
 use std::alloc::{AllocError, Global};
 use std::fmt::Write;
 
-/// Images that are copied. Given: a line with the write at which the run stops, 0 for none, and the kept writes, like `stop 5, keep 5`; and
-/// a script. Found: what the run's opening found, and what an opening of the copy finds after a loss of power.
+/// Copies images. Given: a line with the write at which the run stops, 0 for none, and the kept writes, like `stop 5, keep 5`; and a
+/// script. Found: the report of the run's opening, and that of an opening of the copy after a crash.
 pub fn images<J: Runner>(alloc: Global, journal: &J, given: &str) -> Result<String, RowError> {
     let (line, text) = cut(given, "\n")?;
     let (stop, keep) = cut(line, ", keep")?;
@@ -52,7 +52,7 @@ fn blank(alloc: Global, script: &Script) -> MemDevice {
     MemDevice::new(alloc, measures.block_size, log_blocks, measures.home_blocks)
 }
 
-/// What the opening found of a run's image that is copied, or why there is none.
+/// The report of the opening of a copied image, or why there is none.
 fn opening_of_run<J: Runner, D: Device>(
     alloc: Global,
     journal: &J,
@@ -99,8 +99,8 @@ fn opening_of_copy(alloc: Global, copy: MemDevice) -> Result<String, RowError> {
     }
 }
 
-/// Copies of which each call fails in turn. Given: a line like `calls 1 to 21`, and a script. Found: what the run's opening found, or why
-/// there was none and after how many lines; and the failing calls that lead to it.
+/// Copies with each call failing in turn. Given: a line like `calls 1 to 21`, and a script. Found: the opening's report, or its refusal and
+/// how many lines precede it; with the failing calls that lead to it.
 pub fn failed_copies<J: Runner>(
     alloc: Global,
     journal: &J,

@@ -6,9 +6,9 @@ use script_run::{AfterFailure, AnyHome, Fault, RunDevice, Stopped, Stops};
 use std::alloc::Global;
 use std::sync::Wait;
 
-/// A journal as rows use it: it runs scripts as `script_run` does.
+/// A journal that runs scripts as `script_run` does.
 pub trait Runner {
-    /// Runs a script, and prints its lines and the verdict, which is the answer.
+    /// Runs a script, prints its lines and the verdict, and answers the verdict.
     ///
     /// # Errors
     ///
@@ -21,7 +21,7 @@ pub trait Runner {
         out: &mut Vec<u8>,
     ) -> Result<bool, Fault>;
 
-    /// The same, and copies the crash image to a device.
+    /// As `run`, and copies the crash image to a device.
     ///
     /// # Errors
     ///

@@ -1,5 +1,4 @@
-//! Rows of runs: scripts, stops of runs and of openings, copied images, logs changed by hand, and closes. A row gives a text, and the text
-//! that is wanted; each kind of rows is a function.
+//! Rows of runs: scripts, stops of runs and openings, copied images, hand-changed logs, and closes.
 #![tactic(auto)]
 
 pub mod changed;

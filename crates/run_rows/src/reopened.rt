@@ -1,4 +1,4 @@
-//! Rows of devices that are opened again after a failed call, without a loss of power.
+//! Rows of devices that are opened again after a failed call, without a crash.
 use crate::endings::{Ending, Given, endings_text, given_of, in_one_line, kept, note};
 use crate::journals::Runner;
 use crate::texts::{numbers_in, written};
@@ -11,10 +11,9 @@ use recovery::{Opened, Report, open};
 use script_run::{Fault, OpenedImage, Stopped, judge_opened, judge_reopened, open_image};
 use std::alloc::Global;
 
-/// Runs of which a call fails, and whose device is then opened as it is: it has lost no power, and reads all that was written. That opening
-/// stops at each write, and its crash image is opened again. Given: a line like `call 8 fails`, another like `openings that stop at writes
-/// 1 to 4, any of the last 4 writes kept`, and a script. Found: each way in which these end (what the last opening finds, the named blocks
-/// and the verdict), with the stops that lead to it for some kept writes.
+/// Opens the device of a run with a failed call as it is, without a crash: it reads all that was written. That opening stops at each write,
+/// and its crash image is opened again. Given: a line like `call 8 fails`, one like `openings that stop at writes 1 to 4, any of the last 4
+/// writes kept`, and a script. Found: as for `stops`, for the last opening.
 pub fn reopened_devices<J: Runner>(
     alloc: Global,
     journal: &J,
@@ -31,14 +30,14 @@ pub fn reopened_devices<J: Runner>(
     Ok(endings_text(alloc, &endings, "stops")?)
 }
 
-/// A run of which a call failed.
+/// A run with a failed call.
 #[derive(Drop)]
 struct Failed {
-    /// The run, whose device has lost no power.
+    /// Its device has not crashed.
     run: Stopped,
-    /// The blocks that its script names.
+    /// The blocks that the script names.
     named: NamedBlocks,
-    /// What an opening finds on the device.
+    /// The report of an opening of the device.
     first: Report,
 }
 
@@ -65,7 +64,7 @@ fn failed_of<J: Runner>(
     Ok(Failed { run, named, first })
 }
 
-/// Adds how openings that stop at write `k` end, for each choice of the last writes.
+/// Adds the endings of openings that stop at write `k`, for each choice of the last writes.
 fn add_stops(
     alloc: Global,
     given: &Given,

@@ -1,4 +1,4 @@
-//! Rows of texts that are scripts, and of texts that are not.
+//! Rows of texts that are scripts, or are not.
 use crate::texts::write_hex;
 use format_rows::RowError;
 use journal_script::{Measures, Operation, Script, ScriptError, read};
@@ -34,8 +34,8 @@ fn bytes_of(alloc: Global, text: &str) -> Result<Vec<u8>, AllocError> {
     Ok(bytes)
 }
 
-/// Whether a text is a script, and the measures of its keys: `no script`, or like `block 1024, log 33, home 64, uuid aa...`, followed by `,
-/// wide` for block numbers of 64 bits.
+/// Whether a text is a script, and its measures: `no script`, or like `block 1024, log 33, home 64, uuid aa...`, with `, wide` for 64-bit
+/// block numbers.
 pub fn script(alloc: Global, given: &str) -> Result<String, RowError> {
     let bytes = bytes_of(alloc, given)?;
     match script_of(alloc, &bytes)? {
@@ -57,7 +57,7 @@ pub fn measures_text(alloc: Global, measures: &Measures) -> Result<String, Alloc
     Ok(text)
 }
 
-/// The operations of a script, one a line: the word, handle and number, and after a write, through a handle or direct, its bytes.
+/// A script's operations, one a line: the word, handle and number, and the bytes that a write gives, through a handle or direct.
 pub fn operations(alloc: Global, given: &str) -> Result<String, RowError> {
     let script = given_script(alloc, given)?;
     let mut all = String::new(alloc);

@@ -1,4 +1,4 @@
-//! Rows of runs that stop at each of their writes, and of runs whose openings do.
+//! Rows of runs, and of openings after runs, that stop at each write.
 use crate::endings::{Ending, Given, endings_text, given_of, in_one_line, kept, note};
 use crate::journals::Runner;
 use crate::texts::written;
@@ -8,8 +8,8 @@ use journal_script::Script;
 use script_run::{Stop, Stops};
 use std::alloc::Global;
 
-/// Runs that stop at each write. Given: a line like `stops 1 to 13, any of the last 4 writes kept`, and a script. Found: each way in which
-/// runs end (what an opening finds, the named blocks and the verdict), with the stops that lead to it for some kept writes.
+/// Runs that stop at each write. Given: a line like `stops 1 to 13, any of the last 4 writes kept`, and a script. Found: each ending (the
+/// opening's report, the named blocks, the verdict), with the stops that lead to it for some kept writes.
 pub fn stops<J: Runner>(alloc: Global, journal: &J, given: &str) -> Result<String, RowError> {
     let given = given_of(alloc, given)?;
     let mut endings = Vec::new(alloc);
@@ -19,7 +19,7 @@ pub fn stops<J: Runner>(alloc: Global, journal: &J, given: &str) -> Result<Strin
     Ok(endings_text(alloc, &endings, "stops")?)
 }
 
-/// Adds how runs that stop at write `k` end, for each choice of the last writes.
+/// Adds the endings of runs that stop at write `k`, for each choice of the last writes.
 fn add_stop<J: Runner>(
     alloc: Global,
     journal: &J,
@@ -79,9 +79,8 @@ fn add_lines(
     Ok(note(alloc, endings, text, stop.parse().ok())?)
 }
 
-/// Runs that stop at their end, and whose openings stop at each write. Given: a line like `openings that stop at writes 1 to 5, any of the
-/// last 4 kept`, and a script. Found: each way in which these end (what the last opening finds, the named blocks and the verdict), with the
-/// stops that lead to it for some kept writes.
+/// Runs to the end, then openings that stop at each write. Given: a line like `openings that stop at writes 1 to 5, any of the last 4
+/// kept`, and a script. Found: as for `stops`, for the last opening.
 pub fn stops_of_openings<J: Runner>(
     alloc: Global,
     journal: &J,
@@ -95,7 +94,7 @@ pub fn stops_of_openings<J: Runner>(
     Ok(endings_text(alloc, &endings, "stops")?)
 }
 
-/// Adds how openings that stop at write `k` end, for each choice of the last writes.
+/// Adds the endings of openings that stop at write `k`, for each choice of the last writes.
 fn add_openings<J: Runner>(
     alloc: Global,
     journal: &J,
@@ -130,7 +129,7 @@ fn add_opening<J: Runner>(
     }
 }
 
-/// Adds an ending from these lines, from the last opening's on.
+/// Adds an ending from these lines; its text begins at the last opening.
 fn add_opened(
     alloc: Global,
     lines: &str,

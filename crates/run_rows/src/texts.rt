@@ -4,7 +4,7 @@ use std::alloc::AllocError;
 use std::fmt::Write;
 use std::str::from_utf8;
 
-/// The first numbers of a line; other words are passed over.
+/// The first `N` numbers of a line; other words are skipped.
 pub fn numbers_in<const N: usize>(line: &str) -> Result<[u64; N], RowError> {
     let mut found = [0; N];
     let mut numbers = line

@@ -16,14 +16,14 @@ use Rattle.journal_script.specs.declared.script.Operation.{Operation}
 use Rattle.script_client.specs.Lines.{line_of}
 use Rattle.script_client.specs.Outcomes.{AppliesAll, AppliesSome, AppliesUpTo, Performs, PerformsAll, Writes}
 use Rattle.script_client.specs.Outcomes.Performs.{NoneYet, OneMore}
-use Rattle.script_client.specs.Performed.{HasDone, Table}
+use Rattle.script_client.specs.Performed.{Table}
 use Rattle.script_client.proofs.Telling.{open-or_not}
 
 -- the operations were performed, the list goes on after each, and the lines were written
-pub record PerformsSoFar {D : Type 0} (state : D → DeviceState) (honest : D → Type 0) (Last : Outcome → Type 0) (operations : List Operation) (old new : Table D)
+pub record PerformsSoFar {D : Type 0} (Does : Operation → Outcome → Table D → Table D → Type 0) (Last : Outcome → Type 0) (operations : List Operation) (old new : Table D)
     (before written : Option (List ℕ)) : Type 0 where
   pub outcomes : List Outcome
-  pub performs : Writes before written (λ lines. Performs state honest Last operations outcomes lines old new)
+  pub performs : Writes before written (λ lines. Performs Does Last operations outcomes lines old new)
   pub go : AllByRecursion (λ o. Last o → ⊥) outcomes
 
 -- the list goes on after one more outcome
@@ -44,23 +44,23 @@ appends-none : (written : Option (List ℕ)) → Appends written written []
 appends-none None = tt
 appends-none (Some xs) = sym (append-nil xs)
 
-module _ {D : Type 0} (state : D → DeviceState) (honest : D → Type 0) (Last : Outcome → Type 0) (operations : List Operation) where
+module _ {D : Type 0} (Does : Operation → Outcome → Table D → Table D → Type 0) (Last : Outcome → Type 0) (operations : List Operation) where
   -- no operation was performed yet
-  pub none-performed : (t : Table D) (written : Option (List ℕ)) → PerformsSoFar state honest Last [] t t written written
+  pub none-performed : (t : Table D) (written : Option (List ℕ)) → PerformsSoFar Does Last [] t t written written
   none-performed t written = record { outcomes = []; performs = record { lines = []; said = appends-none written; are = NoneYet t }; go = tt }
 
   module _ (i : ℕ) (one : Operation) (outcome : Outcome) (old now new : Table D) (before mid written : Option (List ℕ)) (within : i < length operations) (is : one ≡ get_or operations i one)
-      (so_far : PerformsSoFar state honest Last (take i operations) old now before mid) (done : HasDone state honest one outcome now new) where
+      (so_far : PerformsSoFar Does Last (take i operations) old now before mid) (done : Does one outcome now new) where
     -- one more operation was performed
-    performs-more : Performs state honest Last (take (i + 1) operations) (so_far.outcomes ++ outcome ∷ []) (so_far.performs.lines ++ line_of one outcome) old new
+    performs-more : Performs Does Last (take (i + 1) operations) (so_far.outcomes ++ outcome ∷ []) (so_far.performs.lines ++ line_of one outcome) old new
     performs-more =
-        subst (λ (xs : List Operation). Performs state honest Last xs (so_far.outcomes ++ outcome ∷ []) (so_far.performs.lines ++ line_of one outcome) old new)
+        subst (λ (xs : List Operation). Performs Does Last xs (so_far.outcomes ++ outcome ∷ []) (so_far.performs.lines ++ line_of one outcome) old new)
         (sym (take_more operations i one within ∙ ap (λ (x : Operation). take i operations ++ x ∷ []) (sym is)))
         (OneMore (take i operations) so_far.outcomes so_far.performs.lines one outcome old now new so_far.performs.are so_far.go done)
 
     -- its line was written too
     pub writes-more : Appends mid written (line_of one outcome) →
-        Writes before written (λ lines. Performs state honest Last (take (i + 1) operations) (so_far.outcomes ++ outcome ∷ []) lines old new)
+        Writes before written (λ lines. Performs Does Last (take (i + 1) operations) (so_far.outcomes ++ outcome ∷ []) lines old new)
     writes-more line = record {
       lines = so_far.performs.lines ++ line_of one outcome;
       said = appends-more before mid written so_far.performs.lines (line_of one outcome) so_far.performs.said line;
@@ -68,7 +68,7 @@ module _ {D : Type 0} (state : D → DeviceState) (honest : D → Type 0) (Last 
     }
 
     -- the list goes on after it
-    pub one-more-performed : Appends mid written (line_of one outcome) → (Last outcome → ⊥) → PerformsSoFar state honest Last (take (i + 1) operations) old new before written
+    pub one-more-performed : Appends mid written (line_of one outcome) → (Last outcome → ⊥) → PerformsSoFar Does Last (take (i + 1) operations) old new before written
     one-more-performed line on = record {
       outcomes = so_far.outcomes ++ outcome ∷ [];
       performs = writes-more line;
@@ -76,7 +76,7 @@ module _ {D : Type 0} (state : D → DeviceState) (honest : D → Type 0) (Last 
     }
 
     -- the list ends there
-    pub last-performed : Appends mid written (line_of one outcome) → Last outcome → Writes before written (PerformsAll state honest Last operations old new)
+    pub last-performed : Appends mid written (line_of one outcome) → Last outcome → Writes before written (PerformsAll Does Last operations old new)
     unfolding writes-more
     last-performed line last = record {
       lines = (writes-more line).lines;
@@ -91,18 +91,18 @@ module _ {D : Type 0} (state : D → DeviceState) (honest : D → Type 0) (Last 
 
     -- `apply` ends there, with this refusal
     pub refused-applied : (e : JournalError) → outcome ≡ Refused e → Last (Refused e) → Appends mid written (line_of one outcome) →
-        AppliesUpTo state honest Last operations old new before written e
+        AppliesUpTo Does Last operations old new before written e
     refused-applied e refused last line = record {
       count = i + 1;
       outcomes = so_far.outcomes;
       performs =
-          subst (λ (o : Outcome). Writes before written (λ lines. Performs state honest Last (take (i + 1) operations) (so_far.outcomes ++ o ∷ []) lines old new))
+          subst (λ (o : Outcome). Writes before written (λ lines. Performs Does Last (take (i + 1) operations) (so_far.outcomes ++ o ∷ []) lines old new))
           refused (writes-more line);
       last = last;
     }
 
     -- its line could not be written
-    pub unwritten-applied : AppliesSome state honest Last operations old new
+    pub unwritten-applied : AppliesSome Does Last operations old new
     unwritten-applied = record {
       count = i + 1;
       outcomes = so_far.outcomes ++ outcome ∷ [];
@@ -111,20 +111,20 @@ module _ {D : Type 0} (state : D → DeviceState) (honest : D → Type 0) (Last 
     }
 
   -- all operations were performed
-  pub all-performed : (old new : Table D) (before written : Option (List ℕ)) (i : ℕ) → i ≡ length operations → PerformsSoFar state honest Last (take i operations) old new before written →
-      Writes before written (PerformsAll state honest Last operations old new)
+  pub all-performed : (old new : Table D) (before written : Option (List ℕ)) (i : ℕ) → i ≡ length operations → PerformsSoFar Does Last (take i operations) old new before written →
+      Writes before written (PerformsAll Does Last operations old new)
   all-performed old new before written i end so_far = record {
     lines = so_far.performs.lines;
     said = so_far.performs.said;
     are = record { count = i; outcomes = so_far.outcomes; performs = so_far.performs.are; all = inl end };
   }
 
-  pub all-applied : (old new : Table D) (before written : Option (List ℕ)) (i : ℕ) → i ≡ length operations → PerformsSoFar state honest Last (take i operations) old new before written →
-      AppliesAll state honest Last operations old new before written
+  pub all-applied : (old new : Table D) (before written : Option (List ℕ)) (i : ℕ) → i ≡ length operations → PerformsSoFar Does Last (take i operations) old new before written →
+      AppliesAll Does Last operations old new before written
   all-applied old new before written i end so_far = record {
     outcomes = so_far.outcomes;
     performs =
-        subst (λ (xs : List Operation). Writes before written (λ lines. Performs state honest Last xs so_far.outcomes lines old new))
+        subst (λ (xs : List Operation). Writes before written (λ lines. Performs Does Last xs so_far.outcomes lines old new))
         (ap (λ (n : ℕ). take n operations) end ∙ take_all (length operations) operations (omega arith)) so_far.performs;
     go = so_far.go;
   }

@@ -1,5 +1,5 @@
 -- The outcomes of a list of operations, performed in order.
-use Rattle.std.specs.Prelude.{◌≡◌, ◌⊎◌, ⊤, ℕ, ◌++◌, List, [], ◌∷◌, Option, Result, Err, IfErr, IsOk, MatchResult, length, take}
+use Rattle.std.specs.Prelude.{◌≡◌, ◌⊎◌, ⊤, ℕ, ◌++◌, false, List, [], ◌∷◌, Option, Result, Err, IfErr, IsOk, MatchResult, length, take}
 use Rattle.std.specs.Io.KnownBytes.{Appends}
 use Rattle.std.specs.List.{AllByRecursion}
 use Rattle.journal_model.specs.declared.refusal.JournalError.{JournalError}
@@ -17,12 +17,11 @@ use Rattle.script_client.specs.declared.outcome.Outcome.TheVariants.{Refused}
 use Rattle.script_client.specs.declared.performing.AfterFailure.{AfterFailure}
 use Rattle.script_client.specs.declared.performing.AfterFailure.TheVariants.{End}
 use Rattle.script_client.specs.declared.performing.AfterRefusal.{AfterRefusal}
-use Rattle.script_client.specs.declared.performing.AfterRefusal.TheVariants.{End as EndThere}
 use Rattle.script_client.specs.declared.performing.Ending.{Ending}
 use Rattle.script_client.specs.declared.performing.Ending.TheVariants.{Close, Stay}
 use Rattle.script_client.specs.Ended.{IsUnclosed}
 use Rattle.script_client.specs.Lines.{line_of}
-use Rattle.script_client.specs.Performed.{HasDone, IsBegun, Table}
+use Rattle.script_client.specs.Performed.{HasDone, HasDoneAs, IsBegun, Table}
 use Rattle.script_client.specs.Shown.{IsLeftOf}
 use Rattle.script_client.specs.Told.{ClientValue}
 
@@ -32,34 +31,34 @@ IsLast after outcome = (after ≡ End) × (outcome ≡ Refused Device)
 
 -- `apply` stops after a refusal for this cause, and after this outcome
 abbrev pub EndsApply : AfterRefusal → JournalError → Type 0
-EndsApply after e = (after ≡ EndThere) ⊎ (e ≡ Device)
+EndsApply after e = (after.goes_on ≡ false) ⊎ (e ≡ Device)
 
 abbrev pub IsLastApplied : AfterRefusal → Outcome → Type 0
 IsLastApplied after outcome = (e : JournalError) × (outcome ≡ Refused e) × EndsApply after e
 
--- the operations were performed in order, with these outcomes and lines; only the last outcome may satisfy `Last`
-pub data Performs {D : Type 0} (state : D → DeviceState) (honest : D → Type 0) (Last : Outcome → Type 0) : List Operation → List Outcome → List ℕ → Table D → Table D → Type 0 where
-  NoneYet : (t : Table D) → Performs state honest Last [] [] [] t t
+-- the operations were performed in order, each so, with these outcomes and lines; only the last outcome may satisfy `Last`
+pub data Performs {D : Type 0} (Does : Operation → Outcome → Table D → Table D → Type 0) (Last : Outcome → Type 0) : List Operation → List Outcome → List ℕ → Table D → Table D → Type 0 where
+  NoneYet : (t : Table D) → Performs Does Last [] [] [] t t
   OneMore : (operations : List Operation) (outcomes : List Outcome) (lines : List ℕ) (one : Operation) (outcome : Outcome) (t u v : Table D) →
-      Performs state honest Last operations outcomes lines t u → AllByRecursion (λ o. Last o → ⊥) outcomes → HasDone state honest one outcome u v →
-      Performs state honest Last (operations ++ one ∷ []) (outcomes ++ outcome ∷ []) (lines ++ line_of one outcome) t v
+      Performs Does Last operations outcomes lines t u → AllByRecursion (λ o. Last o → ⊥) outcomes → Does one outcome u v →
+      Performs Does Last (operations ++ one ∷ []) (outcomes ++ outcome ∷ []) (lines ++ line_of one outcome) t v
 
 -- the last outcome satisfies `Last`
 abbrev pub EndsHere : (Last : Outcome → Type 0) → List Outcome → Type 0
 EndsHere Last outcomes = (before : List Outcome) × (last : Outcome) × (outcomes ≡ before ++ last ∷ []) × Last last
 
 -- all operations were performed, or those up to the first outcome that satisfies `Last`; these are their lines
-pub record PerformsAll {D : Type 0} (state : D → DeviceState) (honest : D → Type 0) (Last : Outcome → Type 0) (operations : List Operation) (old new : Table D) (lines : List ℕ) : Type 0 where
+pub record PerformsAll {D : Type 0} (Does : Operation → Outcome → Table D → Table D → Type 0) (Last : Outcome → Type 0) (operations : List Operation) (old new : Table D) (lines : List ℕ) : Type 0 where
   pub count : ℕ
   pub outcomes : List Outcome
-  pub performs : Performs state honest Last (take count operations) outcomes lines old new
+  pub performs : Performs Does Last (take count operations) outcomes lines old new
   pub all : (count ≡ length operations) ⊎ EndsHere Last outcomes
 
 -- the same from this start, with what is left: the device, the sealed transactions, and the greatest acknowledged one
 pub record PerformsTo {D : Type 0} (state : D → DeviceState) (honest : D → Type 0) (start : Table D) (operations : List Operation) (after : AfterFailure)
     (device : D) (sealed : History) (shown : Option ℕ) (lines : List ℕ) : Type 0 where
   pub last : Table D
-  pub all : PerformsAll state honest (IsLast after) operations start last lines
+  pub all : PerformsAll (HasDone state honest) (IsLast after) operations start last lines
   pub left : IsLeftOf last.client device sealed shown
 
 -- the same from a new journal on an opened log
@@ -76,35 +75,35 @@ pub record Writes (before written : Option (List ℕ)) (AreOf : List ℕ → Typ
   pub are : AreOf lines
 
 -- all operations were performed, no outcome satisfies `Last`, and the lines were written
-pub record AppliesAll {D : Type 0} (state : D → DeviceState) (honest : D → Type 0) (Last : Outcome → Type 0) (operations : List Operation) (old new : Table D)
+pub record AppliesAll {D : Type 0} (Does : Operation → Outcome → Table D → Table D → Type 0) (Last : Outcome → Type 0) (operations : List Operation) (old new : Table D)
     (before written : Option (List ℕ)) : Type 0 where
   pub outcomes : List Outcome
-  pub performs : Writes before written (λ lines. Performs state honest Last operations outcomes lines old new)
+  pub performs : Writes before written (λ lines. Performs Does Last operations outcomes lines old new)
   pub go : AllByRecursion (λ o. Last o → ⊥) outcomes
 
 -- the operations were performed up to one that was refused, whose outcome satisfies `Last`; the lines were written
-pub record AppliesUpTo {D : Type 0} (state : D → DeviceState) (honest : D → Type 0) (Last : Outcome → Type 0) (operations : List Operation) (old new : Table D)
+pub record AppliesUpTo {D : Type 0} (Does : Operation → Outcome → Table D → Table D → Type 0) (Last : Outcome → Type 0) (operations : List Operation) (old new : Table D)
     (before written : Option (List ℕ)) (e : JournalError) : Type 0 where
   pub count : ℕ
   pub outcomes : List Outcome
-  pub performs : Writes before written (λ lines. Performs state honest Last (take count operations) (outcomes ++ Refused e ∷ []) lines old new)
+  pub performs : Writes before written (λ lines. Performs Does Last (take count operations) (outcomes ++ Refused e ∷ []) lines old new)
   pub last : Last (Refused e)
 
 -- the operations were performed up to one whose line could not be written
-pub record AppliesSome {D : Type 0} (state : D → DeviceState) (honest : D → Type 0) (Last : Outcome → Type 0) (operations : List Operation) (old new : Table D) : Type 0 where
+pub record AppliesSome {D : Type 0} (Does : Operation → Outcome → Table D → Table D → Type 0) (Last : Outcome → Type 0) (operations : List Operation) (old new : Table D) : Type 0 where
   pub count : ℕ
   pub outcomes : List Outcome
   pub lines : List ℕ
-  pub performs : Performs state honest Last (take count operations) outcomes lines old new
+  pub performs : Performs Does Last (take count operations) outcomes lines old new
 
 -- why `apply` ended before the last operation
-abbrev pub EndsFor : {D : Type 0} → (D → DeviceState) → (honest : D → Type 0) → (Last : Outcome → Type 0) → List Operation → Table D → Table D → (before written : Option (List ℕ)) → Fault → Type 0
-EndsFor state honest Last operations old new before written (RefusedAll e) = AppliesUpTo state honest Last operations old new before written e
-EndsFor state honest Last operations old new before written (Output e) = AppliesSome state honest Last operations old new
+abbrev pub EndsFor : {D : Type 0} → (Does : Operation → Outcome → Table D → Table D → Type 0) → (Last : Outcome → Type 0) → List Operation → Table D → Table D → (before written : Option (List ℕ)) → Fault → Type 0
+EndsFor Does Last operations old new before written (RefusedAll e) = AppliesUpTo Does Last operations old new before written e
+EndsFor Does Last operations old new before written (Output e) = AppliesSome Does Last operations old new
 
-abbrev pub Applies : {D : Type 0} → (D → DeviceState) → (honest : D → Type 0) → (Last : Outcome → Type 0) → List Operation → Table D → Table D → (before written : Option (List ℕ)) → Result (Unit {0}) Fault → Type 0
-Applies state honest Last operations old new before written applied =
-    MatchResult applied (λ _. AppliesAll state honest Last operations old new before written) (EndsFor state honest Last operations old new before written)
+abbrev pub Applies : {D : Type 0} → (Does : Operation → Outcome → Table D → Table D → Type 0) → (Last : Outcome → Type 0) → List Operation → Table D → Table D → (before written : Option (List ℕ)) → Result (Unit {0}) Fault → Type 0
+Applies Does Last operations old new before written applied =
+    MatchResult applied (λ _. AppliesAll Does Last operations old new before written) (EndsFor Does Last operations old new before written)
 
 -- the cause of a close that was not done
 abbrev pub IsUnclosedFor : {D : Type 0} → (D → DeviceState) → JournalValue D → (device : D) → History → Fault → Type 0
@@ -134,7 +133,7 @@ pub record HasApplied {D : Type 0} (state : D → DeviceState) (honest : D → T
   pub begun : IsBegun state opened operations start
   pub last : Table D
   pub applied : Result (Unit {0}) Fault
-  pub applies : Applies state honest (IsLastApplied after) operations start last before written applied
+  pub applies : Applies (HasDoneAs after.makes_room state honest) (IsLastApplied after) operations start last before written applied
   pub ends : IsAppliedAs state applied ending last.client device sealed shown end
 
 -- why operations were not performed: no memory for the journal, or a line could not be written

@@ -1,7 +1,7 @@
 -- What each operation of a script does to a journal, and to what the script's names stand for.
-use Rattle.std.specs.Prelude.{◌≡◌, ◌≢◌, ◌⊎◌, ⊤, ℕ, ◌-◌, ◌<◌, ◌≤◌, ◌+◌, ◌++◌, true, false, List, length, replicate, set, take}
+use Rattle.std.specs.Prelude.{◌≡◌, ◌≢◌, ◌⊎◌, ⊤, ℕ, ◌-◌, ◌<◌, ◌≤◌, ◌+◌, ◌++◌, Bool, true, false, List, length, replicate, set, take}
 use Rattle.journal_model.specs.declared.refusal.JournalError.{JournalError}
-use Rattle.journal_model.specs.declared.refusal.JournalError.TheVariants.{Aborted, Memory}
+use Rattle.journal_model.specs.declared.refusal.JournalError.TheVariants.{Aborted, Memory, NeedSpace}
 use Rattle.block_device.specs.State.{DeviceState}
 use Rattle.journal_script.specs.declared.script.Operation.{Operation}
 use Rattle.journal_script.specs.declared.script.Operation.TheVariants.{Start, Write, Revoke, Read, Extend, Restart, Stop, Request, Lock, Turn, Commit, CheckpointTurn, Check, Status, Wait, WriteDirect, SyncDirect}
@@ -308,3 +308,22 @@ HasDone state honest (Status name) outcome old new = HasStatus (stands_for old.n
 HasDone state honest (Wait name) outcome old new = HasWaited name (stands_for old.names name) outcome old new
 HasDone state honest (WriteDirect b bytes) outcome old new = IsSameButJournal old.client new.client × OnJournal (WritesDirectly state b bytes.items outcome) old new
 HasDone state honest SyncDirect outcome old new = IsSameButJournal old.client new.client × OnJournal (SyncsDirectly state outcome) old new
+
+-- Checkpoint turns were taken for an operation, up to the first that had nothing to do, and it was performed; or the turns were refused, and
+-- it came to that.
+pub data HasDoneAfterRound {D : Type 0} (state : D → DeviceState) (honest : D → Type 0) (operation : Operation) (outcome : Outcome) (old new : Table D) : Type 0 where
+  DoneBehind : (roomy : Table D) → HasDone state honest Check (CameToCheckTurn IdleCheck) old roomy → HasDone state honest operation outcome roomy new →
+      HasDoneAfterRound state honest operation outcome old new
+  RoundRefused : HasDone state honest Check outcome old new → outcome ≢ CameToCheckTurn IdleCheck → HasDoneAfterRound state honest operation outcome old new
+
+-- the ring had no room for an operation, and so it was performed once more, after a round
+pub record HasMadeRoom {D : Type 0} (state : D → DeviceState) (honest : D → Type 0) (operation : Operation) (outcome : Outcome) (old new : Table D) : Type 0 where
+  pub refused : Table D
+  pub none : HasDone state honest operation (Refused NeedSpace) old refused
+  pub again : HasDoneAfterRound state honest operation outcome refused new
+
+-- an operation was performed, and where room is made a second time, if the ring had none for it
+abbrev pub HasDoneAs : {D : Type 0} → (makes_room : Bool) → (D → DeviceState) → (honest : D → Type 0) → Operation → Outcome → Table D → Table D → Type 0
+HasDoneAs false state honest operation outcome old new = HasDone state honest operation outcome old new
+HasDoneAs true state honest operation outcome old new =
+    (HasDone state honest operation outcome old new × (outcome ≢ Refused NeedSpace)) ⊎ HasMadeRoom state honest operation outcome old new

@@ -1,6 +1,6 @@
 //! Performs a script's operations on a journal, with handles, tickets and receipts by name.
 ghost use Rattle.std.specs.Prelude.{◌≡◌, ◌↔◌, ◌++◌, Contains, IfErr, IfOk, IsTrue, MatchResult, drop, length, min, replicate, take};
-ghost use Rattle.journal_model.specs.declared.refusal.JournalError.TheVariants.{Memory};
+ghost use Rattle.journal_model.specs.declared.refusal.JournalError.TheVariants.{Memory, NeedSpace};
 ghost use Rattle.script_client.specs.declared.outcome.Outcome.TheVariants.{Done, Refused};
 ghost use Rattle.script_client.specs.Performed.{IsIdle, block_from, told_of};
 
@@ -23,6 +23,8 @@ pub struct Interpreter<'a, D: Device, H: HomeFact> {
     alloc: Global,
     client: Client<'a, D, H>,
     slots: Slots,
+    /// The greatest transaction for which a wait came to `Open`.
+    open_wait: Option<Tid>,
 }
 
 fn copy_front(to: &mut [u8], from: &[u8])
@@ -69,6 +71,20 @@ fn is_idle_check(turn: CheckTurn) -> bool
     matches!(turn, CheckTurn::Idle)
 }
 
+/// Whether an operation was refused since the ring had no room for it.
+fn lacks_room(outcome: &Outcome) -> bool
+    ensures { IsTrue result ↔ (outcome.now ≡ Refused NeedSpace) }
+{
+    matches!(outcome, Outcome::Refused(JournalError::NeedSpace))
+}
+
+/// Whether checkpoint turns were taken up to the first that had nothing to do.
+fn is_round_done(outcome: &Outcome) -> bool
+    ensures { IsTrue result ↔ (outcome.now ≡ Outcome.CheckTurn CheckTurn.Idle) }
+{
+    matches!(outcome, Outcome::CheckTurn(CheckTurn::Idle))
+}
+
 fn told(tid: Tid, status: Status) -> Outcome
     ensures { result ≡ told_of tid status }
 {
@@ -79,12 +95,12 @@ fn told(tid: Tid, status: Status) -> Outcome
 }
 
 impl<'a, D: Device + Drop, H: HomeFact> Interpreter<'a, D, H> {
-    ghost use Rattle.std.specs.Prelude.{OnOk};
+    ghost use Rattle.std.specs.Prelude.{OnOk, true};
     ghost use Rattle.journal_script.specs.Named.{IsDirectOf};
     ghost use Rattle.group_commit.specs.Close.{IsSealedInClose, closing};
     ghost use Rattle.script_client.specs.Ended.{IsEnded, IsLeftClosed, IsUnclosed, StopsHandles};
     ghost use Rattle.script_client.specs.Names.{stands_for};
-    ghost use Rattle.script_client.specs.Performed.{HasDone, HasRequested, HasRestarted, HasStarted, HasStatus, HasStopped, HasTouched, HasWaited, IsBegun, IsTouch, Locks, ReadsBlock, SyncsDirectly, TakesCheckTurns, TakesOneCheckTurn, TakesOneTurn, TakesTurns, TellsAgain, Touches, WaitsFor, WritesBlock, WritesDirectly};
+    ghost use Rattle.script_client.specs.Performed.{HasDone, HasDoneAfterRound, HasDoneAs, HasRequested, HasRestarted, HasStarted, HasStatus, HasStopped, HasTouched, HasWaited, IsBegun, IsTouch, Locks, ReadsBlock, SyncsDirectly, TakesCheckTurns, TakesOneCheckTurn, TakesOneTurn, TakesTurns, TellsAgain, Touches, WaitsFor, WritesBlock, WritesDirectly};
     ghost use Rattle.script_client.specs.Shown.{IsLeftOf, IsSameButJournal};
     ghost use Rattle.script_client.specs.Told.{IsLedTo};
 
@@ -111,6 +127,7 @@ impl<'a, D: Device + Drop, H: HomeFact> Interpreter<'a, D, H> {
                 alloc,
                 client,
                 slots: Slots::of(room),
+                open_wait: None,
             }),
             Err(refused) => {
                 room.destroy_empty();
@@ -144,6 +161,53 @@ impl<'a, D: Device + Drop, H: HomeFact> Interpreter<'a, D, H> {
             Operation::WriteDirect(block, bytes) => self.write_direct(*block, bytes),
             Operation::SyncDirect => self.sync_direct(),
         }
+    }
+
+    /// Runs one of its operations as `perform` does. Where `makes_room` tells so, one for which the ring has no room is run once more, after
+    /// checkpoint turns up to the first that has nothing to do; and where such a turn is refused it came to that.
+    pub fn perform_as(&mut self, operation: &Operation, makes_room: bool) -> Outcome
+        requires { Contains self.old.client.operations operation.now }
+        ensures done { HasDoneAs makes_room D.state D.honest operation.now result (record { client = self.old.client; names = self.old.slots }) (record { client = self.new.client; names = self.new.slots }) }
+        ensures operations { self.new.client.operations ≡ self.old.client.operations }
+    {
+        if makes_room {
+            self.perform_in_room(operation)
+        } else {
+            self.perform(operation)
+        }
+    }
+
+    /// Runs one of its operations, and makes room for it where the ring has none.
+    fn perform_in_room(&mut self, operation: &Operation) -> Outcome
+        requires { Contains self.old.client.operations operation.now }
+        ensures done { HasDoneAs true D.state D.honest operation.now result (record { client = self.old.client; names = self.old.slots }) (record { client = self.new.client; names = self.new.slots }) }
+        ensures operations { self.new.client.operations ≡ self.old.client.operations }
+    {
+        let outcome = self.perform(operation);
+        if lacks_room(&outcome) {
+            self.perform_after_round(operation)
+        } else {
+            outcome
+        }
+    }
+
+    /// Takes checkpoint turns up to the first that has nothing to do, and runs one of its operations.
+    fn perform_after_round(&mut self, operation: &Operation) -> Outcome
+        requires { Contains self.old.client.operations operation.now }
+        ensures done { HasDoneAfterRound D.state D.honest operation.now result (record { client = self.old.client; names = self.old.slots }) (record { client = self.new.client; names = self.new.slots }) }
+        ensures operations { self.new.client.operations ≡ self.old.client.operations }
+    {
+        let checked = self.check();
+        if is_round_done(&checked) {
+            self.perform(operation)
+        } else {
+            checked
+        }
+    }
+
+    /// The greatest transaction for which a wait came to `Open`, if one did.
+    pub fn open_wait(&self) -> Option<Tid> {
+        self.open_wait
     }
 
     /// Whether the device has failed.
@@ -182,6 +246,7 @@ impl<'a, D: Device + Drop, H: HomeFact> Interpreter<'a, D, H> {
             alloc: _,
             mut client,
             slots,
+            open_wait: _,
         } = self;
         let mut slots = slots.into_slots();
         while let Some(slot) = slots.pop() {
@@ -462,9 +527,23 @@ impl<'a, D: Device + Drop, H: HomeFact> Interpreter<'a, D, H> {
             Waited::Committed(receipt) => {
                 (Outcome::Transaction(receipt.tid()), Slot::Waited(receipt))
             }
-            Waited::Open(ticket) => (Outcome::Open, Slot::Stopped(ticket)),
+            Waited::Open(ticket) => {
+                self.note_open(ticket.tid());
+                (Outcome::Open, Slot::Stopped(ticket))
+            }
             Waited::Refused(ticket, e) => (Outcome::Refused(e), Slot::Stopped(ticket)),
         }
+    }
+
+    /// Notes that a wait for a transaction came to `Open`.
+    fn note_open(&mut self, tid: Tid)
+        ensures client { self.new.client ≡ self.old.client }
+        ensures slots { self.new.slots ≡ self.old.slots }
+    {
+        self.open_wait = match self.open_wait {
+            Some(other) => Some(Tid(other.0.max(tid.0))),
+            None => Some(tid),
+        };
     }
 
     fn write_direct(&mut self, block: BlockNo, bytes: &[u8]) -> Outcome

@@ -7,6 +7,7 @@ ghost use Rattle.script_client.specs.declared.performing.Ending.TheVariants.{Clo
 ghost use Rattle.script_client.specs.Ended.{IsEnded, IsLeftClosed};
 ghost use Rattle.script_client.specs.Lines.{line_of};
 ghost use Rattle.script_client.specs.Outcomes.{Applies, EndsApply, EndsAs, HasApplied, HasPerformed, IsAppliedAs, IsClosedAs, IsLast, IsLastApplied, IsUnperformed, PerformsAll, PerformsTo, Writes};
+ghost use Rattle.script_client.specs.Performed.{HasDone, HasDoneAs};
 ghost use Rattle.script_client.specs.Shown.{IsLeftOf};
 ghost use Rattle.script_client.specs.Told.{IsLedTo};
 
@@ -32,13 +33,15 @@ pub enum AfterFailure {
     GoOn,
 }
 
-/// Whether operations go on after a refusal.
-#[derive(Clone, Copy, Debug, PartialEq, Eq)]
-pub enum AfterRefusal {
-    /// They end at the first refusal, so that no half of a change is committed.
-    End,
-    /// They go on, unless the device failed: that refusal is the last outcome.
-    GoOn,
+/// What follows a refusal.
+#[derive(Clone, Copy, Debug)]
+pub struct AfterRefusal {
+    /// An operation for which the ring has no room is tried again after checkpoint turns, up to the first that has nothing to do. It is
+    /// refused if it is so then, or if such a turn is.
+    pub makes_room: bool,
+    /// Operations go on, unless the device failed: that refusal is the last outcome. Else they end at the first refusal, so that no half of
+    /// a change is committed.
+    pub goes_on: bool,
 }
 
 /// What is left of a journal after `perform` or `apply`.
@@ -50,6 +53,8 @@ pub struct Performed<D> {
     pub sealed: Vec<Sealed>,
     /// The greatest acknowledged transaction.
     pub acknowledged: Option<Tid>,
+    /// The greatest transaction for which a wait came to `open`: where it is above `acknowledged` no later line showed it committed.
+    pub open_wait: Option<Tid>,
 }
 
 /// How `apply` leaves the journal after its last operation.
@@ -194,12 +199,12 @@ fn apply_all<D: Device + Drop, H: HomeFact, W: Write>(
 ) -> Result<(), Fault>
     requires { interpreter.old.client.operations ≡ operations.now }
     ensures operations { interpreter.new.client.operations ≡ interpreter.old.client.operations }
-    ensures applies { Applies D.state D.honest (IsLastApplied after) operations.now
+    ensures applies { Applies (HasDoneAs after.makes_room D.state D.honest) (IsLastApplied after) operations.now
         (record { client = interpreter.old.client; names = interpreter.old.slots }) (record { client = interpreter.new.client; names = interpreter.new.slots })
         (W.contents out.old) (W.contents out.new) result }
 {
     for operation in operations {
-        let outcome = interpreter.perform(operation);
+        let outcome = interpreter.perform_as(operation, after.makes_room);
         match write_line(operation, &outcome, out) {
             Ok(()) => {}
             Err(e) => return Err(Fault::Output(e)),
@@ -222,7 +227,7 @@ fn last_refusal(outcome: Outcome, after: AfterRefusal) -> Option<JournalError>
     ensures none { IfNone result (IsLastApplied after outcome → ⊥) }
 {
     match outcome {
-        Outcome::Refused(e) if after == AfterRefusal::End || e == JournalError::Device => Some(e),
+        Outcome::Refused(e) if !after.goes_on || e == JournalError::Device => Some(e),
         _ => None,
     }
 }
@@ -279,6 +284,7 @@ fn close<D: Device + Drop, H: HomeFact>(interpreter: Interpreter<'_, D, H>) -> A
     ensures closed { OnOk result.end (D.honest result.left.device → IsLeftClosed (D.state result.left.device) result.left.sealed.items) }
     ensures closed_as { IsClosedAs D.state interpreter.entry.client result.left.device result.left.sealed.items result.left.acknowledged result.end }
 {
+    let open_wait = interpreter.open_wait();
     let Ended {
         parts,
         acknowledged,
@@ -288,6 +294,7 @@ fn close<D: Device + Drop, H: HomeFact>(interpreter: Interpreter<'_, D, H>) -> A
         device: parts.device,
         sealed: parts.sealed,
         acknowledged,
+        open_wait,
     };
     match closed {
         Ok(()) => Applied { left, end: Ok(()) },
@@ -306,7 +313,7 @@ fn perform_all<D: Device + Drop, H: HomeFact, W: Write>(
 ) -> io::Result<()>
     requires { interpreter.old.client.operations ≡ operations.now }
     ensures operations { interpreter.new.client.operations ≡ interpreter.old.client.operations }
-    ensures all { OnOk result (Writes (W.contents out.old) (W.contents out.new) (PerformsAll D.state D.honest (IsLast after) operations.now
+    ensures all { OnOk result (Writes (W.contents out.old) (W.contents out.new) (PerformsAll (HasDone D.state D.honest) (IsLast after) operations.now
         (record { client = interpreter.old.client; names = interpreter.old.slots }) (record { client = interpreter.new.client; names = interpreter.new.slots }))) }
 {
     for operation in operations {
@@ -329,10 +336,12 @@ fn left_of<D: Device + Drop, H: HomeFact>(interpreter: Interpreter<'_, D, H>) ->
     ensures led { D.honest result.device → IsLedTo H.holds interpreter.entry.client.operations (D.state result.device) result.sealed.items result.acknowledged }
     ensures left { IsLeftOf interpreter.entry.client result.device result.sealed.items result.acknowledged }
 {
+    let open_wait = interpreter.open_wait();
     let (parts, acknowledged) = interpreter.finish();
     Performed {
         device: parts.device,
         sealed: parts.sealed,
         acknowledged,
+        open_wait,
     }
 }

@@ -1,4 +1,4 @@
-//! Performs a script's operations by the calls of a journal that threads share.
+//! Performs a script's operations on a shared journal.
 ghost use Rattle.std.specs.Prelude.{◌≡◌, length, IfOk};
 
 use crate::outcome::{Outcome, PRINTED_BYTES};
@@ -12,10 +12,10 @@ use shared_journal::{
 use std::alloc::{AllocError, Global};
 use std::sync::Wait;
 
-/// More turns than a commit can take.
+/// More turns than a commit takes.
 const MOST_TURNS: u32 = 2_000_000;
 
-/// A client of a journal, and what the names of a script stand for.
+/// A client of a journal, and the slots of a script's names.
 pub(crate) struct Interpreter<'j, J: JournalName, R: Wait> {
     rt: &'j R,
     alloc: Global,
@@ -47,7 +47,7 @@ fn block_of(alloc: Global, size: usize, bytes: &[u8]) -> Result<Vec<u8>, AllocEr
     Ok(block)
 }
 
-/// How many names there are up to the greatest whose handle an operation starts.
+/// The number of names up to the greatest one that an operation starts a handle for.
 fn names_in(operations: &[Operation]) -> usize {
     let mut names = 0;
     for operation in operations {
@@ -66,7 +66,7 @@ fn done_or_refused(answer: Result<(), JournalError>) -> Outcome {
 }
 
 impl<'j, J: JournalName, R: Wait> Interpreter<'j, J, R> {
-    /// An interpreter over a journal, for these operations. No name stands for anything.
+    /// An interpreter of these operations on a journal, with empty slots.
     ///
     /// # Errors
     ///
@@ -113,7 +113,7 @@ impl<'j, J: JournalName, R: Wait> Interpreter<'j, J, R> {
         }
     }
 
-    /// Stops the open handles. Returns the greatest acknowledged transaction.
+    /// Stops the open handles, and returns the greatest acknowledged transaction.
     pub(crate) fn finish(self) -> Option<Tid> {
         let Interpreter {
             rt,
@@ -140,7 +140,7 @@ impl<'j, J: JournalName, R: Wait> Interpreter<'j, J, R> {
         self.slots.replace(name, Slot::Empty)
     }
 
-    /// Puts something at a name. An open handle there is stopped, which no script asks for.
+    /// Fills a name's slot. It stops an open handle there, which no script asks for.
     fn put(&mut self, name: HandleName, slot: Slot<'j, J>) {
         match self.slots.replace(name, slot) {
             Slot::Open(handle) => {
@@ -154,7 +154,7 @@ impl<'j, J: JournalName, R: Wait> Interpreter<'j, J, R> {
         self.acknowledged = self.acknowledged.max(Some(tid));
     }
 
-    /// Starts a handle, if its name stands for no open one. After a refusal the name stands for nothing.
+    /// Starts a handle unless its name has an open one. A refusal leaves the slot empty.
     fn start(&mut self, name: HandleName, credits: u64) -> Outcome {
         if !self.slots.is_free(name) {
             return Outcome::Skipped;
@@ -225,7 +225,7 @@ impl<'j, J: JournalName, R: Wait> Interpreter<'j, J, R> {
         }
     }
 
-    /// Reserves credits and adds them to a handle; if it refuses them, they go back.
+    /// Reserves credits and adds them to a handle; if the handle refuses them, they return.
     fn extend(&mut self, handle: &mut Handle<'j, J, Vec<Sealed>>, credits: u64) -> Outcome {
         match self.journal.reserve(&mut self.seat, credits) {
             Ok(granted) => match self.journal.extend(self.rt, handle, granted) {
@@ -239,7 +239,7 @@ impl<'j, J: JournalName, R: Wait> Interpreter<'j, J, R> {
         }
     }
 
-    /// Restarts a handle. After a refusal the name stands for the stopped handle's ticket.
+    /// Restarts a handle. A refusal leaves the stopped handle's ticket in the slot.
     fn restart(&mut self, name: HandleName, credits: u64) -> Outcome {
         match self.take(name) {
             Slot::Open(handle) => self.restart_open(name, handle, credits),
@@ -287,7 +287,7 @@ impl<'j, J: JournalName, R: Wait> Interpreter<'j, J, R> {
         }
     }
 
-    /// Requests a commit; for a receipt, whose transaction is committed, the journal need not be asked.
+    /// Requests a commit. A receipt's transaction is committed, so only an abort refuses it.
     fn request(&mut self, name: HandleName) -> Outcome {
         match self.take(name) {
             Slot::Stopped(ticket) => {
@@ -307,7 +307,7 @@ impl<'j, J: JournalName, R: Wait> Interpreter<'j, J, R> {
         }
     }
 
-    /// Refuses once the device has failed, as the journal does for every ticket.
+    /// Refuses after a device failure, as the journal refuses every ticket.
     fn unless_aborted(&self) -> Result<(), JournalError> {
         if self.journal.is_aborted(self.rt) {
             Err(JournalError::Aborted)
@@ -364,7 +364,7 @@ impl<'j, J: JournalName, R: Wait> Interpreter<'j, J, R> {
         Outcome::Transaction(self.journal.seen(&mut self.seat))
     }
 
-    /// The status of a name's transaction. If it is committed, that is noted.
+    /// The status of a name's transaction; a committed one is noted.
     fn status(&mut self, name: HandleName) -> Outcome {
         match self.take(name) {
             Slot::Stopped(ticket) => {
@@ -395,7 +395,7 @@ impl<'j, J: JournalName, R: Wait> Interpreter<'j, J, R> {
         }
     }
 
-    /// Takes the receipt of a committed transaction, and notes it. Does not wait for an open one.
+    /// Takes the receipt of a committed transaction and notes it, but does not wait for an open one.
     fn wait(&mut self, name: HandleName) -> Outcome {
         match self.take(name) {
             Slot::Stopped(ticket) => self.wait_for(name, ticket),
@@ -411,7 +411,7 @@ impl<'j, J: JournalName, R: Wait> Interpreter<'j, J, R> {
         }
     }
 
-    /// Takes the receipt for a ticket, if its transaction is committed.
+    /// Takes a ticket's receipt, if its transaction is committed.
     fn wait_for(&mut self, name: HandleName, ticket: Ticket<J, Vec<Sealed>>) -> Outcome {
         if matches!(self.journal.status(&ticket, &mut self.seat), Status::Open) {
             self.put(name, Slot::Stopped(ticket));
@@ -436,7 +436,7 @@ impl<'j, J: JournalName, R: Wait> Interpreter<'j, J, R> {
         }
     }
 
-    /// The outcome for a receipt: its transaction, which is noted, or `Aborted` as for every ticket of an aborted journal.
+    /// Notes a receipt's transaction and answers it, or answers `Aborted` if the journal is aborted.
     fn tell(&mut self, receipt: &Receipt<J, Vec<Sealed>>) -> Outcome {
         if let Err(e) = self.unless_aborted() {
             return Outcome::Refused(e);

@@ -1,7 +1,6 @@
-//! Runs scripts over the journal that threads share, and prints the lines of runs over the journal of one thread.
+//! Runs scripts over a shared journal, and prints the lines that runs over the journal of one thread print.
 //!
-//! There is one thread. It performs the operations by the calls for threads, with a seat and credits. A call that would wait for another
-//! thread is refused instead.
+//! There is one thread, with a seat and credits. It refuses a call that would wait for another thread.
 #![tactic(auto)]
 
 mod interpreter;

@@ -8,26 +8,20 @@ use std::io::Write;
 /// How many bytes of a read block are printed.
 pub(crate) const PRINTED_BYTES: usize = 8;
 
-/// The outcome of an operation.
 #[derive(Clone, Copy)]
 pub(crate) enum Outcome {
-    /// Accepted; the number of the transaction that it is about.
+    /// Accepted; the number of its transaction.
     Transaction(Tid),
-    /// Accepted.
     Done,
-    /// Accepted; the first bytes of the block.
+    /// The first bytes of the block that was read.
     Begins([u8; PRINTED_BYTES]),
-    /// What a commit turn did.
     Turn(Turn),
-    /// What a checkpoint turn did.
     CheckTurn(CheckTurn),
-    /// The transaction is committed.
     Committed,
     /// The transaction is not committed.
     Open,
-    /// It did not run.
+    /// The operation did not run.
     Skipped,
-    /// Refused.
     Refused(JournalError),
 }
 

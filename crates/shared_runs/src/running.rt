@@ -1,4 +1,4 @@
-//! Runs scripts over a journal that threads share, as `script_run` does over the journal of one thread.
+//! Runs scripts over a shared journal, as `script_run` does over the journal of one thread.
 ghost use Rattle.std.specs.Prelude.{◌≡◌};
 
 use crate::interpreter::Interpreter;
@@ -15,14 +15,14 @@ use std::alloc::Global;
 use std::marker::Brand;
 use std::sync::Wait;
 
-/// The device and the record after operations were performed.
+/// The device and the record after the operations.
 #[derive(Drop)]
 struct Done {
     device: RunDevice,
     recorded: Record,
 }
 
-/// Runs a script, and prints its lines, the dump of the crash image, and the verdict on its openings, which is the answer.
+/// Runs a script, prints its lines, the crash image's dump and the verdict on its openings, and answers the verdict.
 ///
 /// # Errors
 ///
@@ -52,7 +52,7 @@ pub fn run<R: Wait>(
     )
 }
 
-/// Runs a script as `run` does, and copies the crash image to a device before it is opened.
+/// As `run`, and copies the crash image to a device before it is opened.
 ///
 /// # Errors
 ///
@@ -82,8 +82,8 @@ fn named_in(alloc: Global, script: &Script) -> Result<NamedBlocks, JournalError>
     Ok(script.named_blocks(alloc)?)
 }
 
-/// Runs a script's operations on an empty log, and prints a line for each. The device stops at write `stop`, or at the end; call
-/// `failing_call`, if given, fails.
+/// Runs a script's operations on an empty log, and prints a line for each. The device stops at write `stop`, else at the end. If
+/// `failing_call` is given, that call fails.
 ///
 /// # Errors
 ///
@@ -127,7 +127,7 @@ pub fn run_operations_over<R: Wait>(
     })
 }
 
-/// How many device calls a script's operations make, without a stop or a failure.
+/// The number of device calls of a script's operations, without a stop or a failure.
 ///
 /// # Errors
 ///
@@ -140,7 +140,7 @@ pub fn calls_of_run<R: Wait>(rt: &R, alloc: Global, script: &Script) -> Result<u
     Ok(done.device.calls())
 }
 
-/// Performs operations on a new journal on an opened log, and ends the journal without a close.
+/// Performs operations with a new journal on an opened log. The journal ends without a close.
 fn done_on<R: Wait>(
     rt: &R,
     alloc: Global,
@@ -177,7 +177,7 @@ fn done_by<J: JournalName, R: Wait>(
     })
 }
 
-/// Performs operations, prints a line for each, and stops the open handles. Returns the greatest acknowledged transaction.
+/// Performs operations, prints a line for each, and stops the open handles. It returns the greatest acknowledged transaction.
 fn perform<J: JournalName, R: Wait>(
     rt: &R,
     alloc: Global,
@@ -196,7 +196,7 @@ fn perform<J: JournalName, R: Wait>(
     }
 }
 
-/// Performs operations up to the one that ends the list, and prints a line for each.
+/// Performs operations and prints a line for each, up to the one that ends the list.
 fn perform_all<J: JournalName, R: Wait>(
     interpreter: &mut Interpreter<'_, J, R>,
     operations: &[Operation],

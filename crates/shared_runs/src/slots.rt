@@ -1,4 +1,4 @@
-//! What the names of a script stand for while it runs. An open handle can't be dropped, so neither can a slot.
+//! What a script's names stand for while it runs. Open handles cannot be dropped, so neither can slots.
 ghost use Rattle.std.specs.Prelude.{◌≡◌, [], vec_capacity};
 
 use journal_model::Sealed;
@@ -6,15 +6,13 @@ use journal_script::HandleName;
 use shared_journal::{Handle, JournalName, Receipt, Ticket};
 use std::mem;
 
-/// What a name stands for.
 pub(crate) enum Slot<'j, J: JournalName> {
-    /// Nothing: no start was tried, or it was refused.
+    /// No start was tried, or it was refused.
     Empty,
-    /// An open handle.
     Open(Handle<'j, J, Vec<Sealed>>),
-    /// The ticket of a stopped handle.
+    /// A stopped handle's ticket.
     Stopped(Ticket<J, Vec<Sealed>>),
-    /// The receipt of a stopped handle's ticket.
+    /// The receipt for a stopped handle's ticket.
     Waited(Receipt<J, Vec<Sealed>>),
 }
 
@@ -24,7 +22,7 @@ pub(crate) struct Slots<'j, J: JournalName> {
 }
 
 impl<'j, J: JournalName> Slots<'j, J> {
-    /// Slots of `names` names that stand for nothing. `room` must be empty, with room for each.
+    /// Empty slots of `names` names. `room` must be empty, with room for them.
     pub(crate) fn of(room: Vec<Slot<'j, J>>, names: usize) -> Self
         requires empty { room.items ≡ [] }
         requires capacity { vec_capacity room ≡ names }
@@ -36,7 +34,7 @@ impl<'j, J: JournalName> Slots<'j, J> {
         Slots { slots }
     }
 
-    /// Whether a name exists and stands for no open handle.
+    /// Whether a name exists and has no open handle.
     pub(crate) fn is_free(&self, name: HandleName) -> bool {
         match self.slots.get(name.index()) {
             Some(Slot::Open(_)) | None => false,
@@ -44,7 +42,7 @@ impl<'j, J: JournalName> Slots<'j, J> {
         }
     }
 
-    /// Puts something at a name. Returns what it stood for.
+    /// Fills a slot and returns its earlier content; an unknown name gives `slot` back.
     pub(crate) fn replace(&mut self, name: HandleName, slot: Slot<'j, J>) -> Slot<'j, J> {
         if name.index() < self.slots.len() {
             mem::replace(&mut self.slots[name.index()], slot)

@@ -1,4 +1,4 @@
-//! Rows of runs of which one device call fails.
+//! Rows of runs with a failed device call.
 use format_rows::RowError;
 use format_rows::words::cut;
 use journal_script::Script;
@@ -8,8 +8,8 @@ use run_rows::texts::written;
 use script_run::{Stop, Stops};
 use std::alloc::Global;
 
-/// Runs of which each call fails in turn. Given: a line like `calls 1 to 13, any of the last 4 writes kept`, and a script. Found: each way
-/// in which runs end (what an opening finds, the named blocks and the verdict), with the calls that lead to it for some kept writes.
+/// Runs with each call failing in turn. Given: a line like `calls 1 to 13, any of the last 4 writes kept`, and a script. Found: as for
+/// `stops` of `run_rows`, for calls.
 pub fn failures<J: Runner>(alloc: Global, journal: &J, given: &str) -> Result<String, RowError> {
     let given = given_of(alloc, given)?;
     let mut endings = Vec::new(alloc);
@@ -19,7 +19,7 @@ pub fn failures<J: Runner>(alloc: Global, journal: &J, given: &str) -> Result<St
     Ok(endings_text(alloc, &endings, "calls")?)
 }
 
-/// Adds how runs with a failure of this call end, for each choice of the last writes.
+/// Adds the endings of runs with this failed call, for each choice of the last writes.
 fn add_failure<J: Runner>(
     alloc: Global,
     journal: &J,

@@ -1,5 +1,4 @@
-//! Rows of sweeps, also of wrong journals; of runs with failing calls; and of verdicts on records made by hand. A row gives a text, and the
-//! text that is wanted; each kind of rows is a function.
+//! Rows of sweeps, also of wrong journals; of runs with failing calls; and of verdicts on hand-made records.
 #![tactic(auto)]
 
 pub mod failures;

@@ -8,8 +8,8 @@ use script_sweep::{Counts, FailureCounts, NotRight, Swept, sweep, sweep_failures
 use std::alloc::{AllocError, Global};
 use std::fmt::Write;
 
-/// Sweeps of a journal. Given: a script. Found: how many writes, images and crash images of stopped openings there were, how many openings
-/// had no ok verdict, and the lines on these.
+/// Sweeps of a journal. Given: a script. Found: the counts of writes, of images, of crash images of stopped openings, and of openings
+/// without an ok verdict, with the lines on the last.
 pub fn sweeps<J: Swept>(alloc: Global, journal: &J, given: &str) -> Result<String, RowError> {
     let mut err = Vec::new(alloc);
     let counts = counts_of(alloc, journal, given, &mut err)?;
@@ -26,8 +26,8 @@ pub fn sweeps<J: Swept>(alloc: Global, journal: &J, given: &str) -> Result<Strin
     Ok(told)
 }
 
-/// Sweeps of a journal's failing calls. Given: a script. Found: how many calls it makes, how many openings after runs with a failed call
-/// had no ok verdict, and the lines on these.
+/// Sweeps of a journal's failing calls. Given: a script. Found: the counts of its calls and of openings without an ok verdict after a
+/// failed call, with the lines on the last.
 pub fn failure_sweeps<J: Swept>(
     alloc: Global,
     journal: &J,
@@ -46,8 +46,8 @@ pub fn failure_sweeps<J: Swept>(
     Ok(told)
 }
 
-/// Sweeps of wrong journals. Given: a line with what overtakes a flush, like `a commit block`, `a superblock`, `a transaction`, or in
-/// openings `a superblock of an opening`; and a script. Found: whether a verdict is false.
+/// Sweeps of wrong journals. Given: a script, after a line with the call that overtakes a flush: `a commit block`, `a superblock`, `a
+/// transaction`, or `a superblock of an opening`. Found: whether a verdict is false.
 pub fn wrong_journals(alloc: Global, given: &str) -> Result<String, RowError> {
     let (name, script) = cut(given, "\n")?;
     let mut err = Vec::new(alloc);
@@ -55,8 +55,8 @@ pub fn wrong_journals(alloc: Global, given: &str) -> Result<String, RowError> {
     found_text(alloc, counts.not_right)
 }
 
-/// Sweeps of a journal's failing calls. Given: a line `heeded`, or `ignored` if the journal goes on as if no call had failed; and a script.
-/// Found: for each call whose failure leads to a false verdict, the line of the first one.
+/// Sweeps of a journal's failing calls. Given: a script, after a line `heeded`, or `ignored` if the journal goes on as if no call had
+/// failed. Found: for each call whose failure leads to a false verdict, the first such line.
 pub fn ignored_failures(alloc: Global, given: &str) -> Result<String, RowError> {
     let (word, script) = cut(given, "\n")?;
     let mut err = Vec::new(alloc);

@@ -1,8 +1,8 @@
-//! Rows of verdicts on records and devices made by hand, as a run never leaves them.
+//! Rows of verdicts on hand-made records and devices, which no run leaves.
 //!
-//! A row has parts with `; ` between them: `2 writes 3 07` is a sealed transaction 2 in which block 3 becomes bytes 07; `acknowledged 2`
-//! the greatest acknowledged transaction; `end 3` the end that an opening found; and `home 3 07` a named home block with these bytes. A
-//! block has 16 bytes.
+//! A row has parts with `; ` between them. `2 writes 3 07` is a sealed transaction 2 that writes bytes 07 to block 3; `acknowledged 2` the
+//! greatest acknowledged transaction; `end 3` the end that an opening reported; `home 3 07` a named home block with these bytes. A block
+//! has 16 bytes.
 use block_device::{Device, MemDevice};
 use format_rows::RowError;
 use format_rows::words::{cut, hex_bytes, number, number32};
@@ -23,7 +23,7 @@ struct Left {
     named: NamedBlocks,
 }
 
-/// How many recorded transactions are below the end, and the verdict on the named blocks for these: like `n=1, right true`.
+/// The number of recorded transactions below the end, and the verdict on the named blocks after these: like `n=1, right true`.
 pub fn verdict(alloc: Global, given: &str) -> Result<String, RowError> {
     let mut left = nothing_left(alloc);
     for part in given.split("; ") {
@@ -69,7 +69,7 @@ fn seal(record: &mut Record, transaction: Sealed) -> Result<(), AllocError> {
     Ok(record.sealed.push(transaction)?)
 }
 
-/// The transaction with the one write of a text like `3 07`.
+/// The transaction with one write, spelled like `3 07`.
 fn transaction(alloc: Global, tid: u32, written: &str) -> Result<Sealed, RowError> {
     let (block, bytes) = block_in(alloc, written)?;
     let mut steps = Items::new(alloc);

@@ -1,5 +1,5 @@
-//! Wrong journals: this project's, over a disk in memory that takes some calls in another order, or silently loses one. Such a disk holds
-//! what a journal would leave that makes its calls in that order, or goes on as if no call had failed.
+//! Wrong journals: this journal over a memory disk that reorders some calls, or silently loses one. The disk then holds what a journal
+//! would leave that made its calls in that order, or ignored a failed call.
 ghost use Rattle.std.specs.Prelude.{◌≡◌};
 
 use block_device::{Device, DeviceFault, FailOnce, MemDevice, StopAt};
@@ -12,36 +12,35 @@ use script_sweep::{Attempt, Fault, OpenedImage, Stopped, Swept, calls_of_run};
 use std::alloc::Global;
 use std::io;
 
-/// Which calls overtake an earlier flush, which is then done before the call after them.
+/// Which calls overtake an earlier flush; the disk then flushes before the call after them.
 #[derive(Clone, Copy, PartialEq, Eq)]
 pub enum Order {
-    /// None.
     AsMade,
     /// A commit block overtakes the flush of the blocks before it.
     CommitBlockFirst,
     /// A superblock overtakes the flush of home before it.
     SuperblockFirst,
-    /// The blocks of a transaction overtake the flush of the superblock before them.
+    /// A transaction's blocks overtake the flush of the superblock before them.
     TransactionFirst,
 }
 
-/// This project's journal, over a disk that takes its calls in these orders.
+/// This journal over a disk that makes its calls in these orders.
 #[derive(Clone, Copy)]
 pub struct WrongJournal {
     /// The order in runs.
     pub runs: Order,
     /// The order in openings.
     pub openings: Order,
-    /// Whether it goes on as if no call of a run had failed.
+    /// Whether it ignores a failed call of a run.
     pub ignores_failures: bool,
 }
 
-/// `StopAt`, `FailOnce` and `Reordered` take this for no stop, no failure and no lost call.
+/// No stop, no failure and no lost call, for `StopAt`, `FailOnce` and `Reordered`.
 const NEVER: u64 = 0;
 
 type WrongDevice = FailOnce<StopAt<Reordered>>;
 
-/// A disk that takes calls in another order, and loses one. It answers as a disk that takes them as they are made.
+/// A disk that reorders calls and loses one, but answers as if it had made each in turn.
 #[derive(Drop)]
 struct Reordered {
     told: MemDevice,
@@ -49,7 +48,7 @@ struct Reordered {
     order: Order,
     /// The lost call, counted from 1.
     lost: u64,
-    /// How many calls were made.
+    /// The calls so far.
     calls: u64,
     /// The waiting flush, if any.
     waiting: Option<Area>,
@@ -57,7 +56,7 @@ struct Reordered {
     behind_superblock: bool,
 }
 
-/// The magic and the type of a commit block, as it begins with them.
+/// The first bytes of a commit block: the magic and the type.
 const COMMIT_BLOCK: [u8; 8] = [0xc0, 0x3b, 0x39, 0x98, 0, 0, 0, 2];
 
 impl Reordered {
@@ -76,13 +75,13 @@ impl Reordered {
         }
     }
 
-    /// The true content after the last call; the waiting flush is done.
+    /// The true content after the last call, with the waiting flush made.
     fn into_real(mut self) -> MemDevice {
         self.flush_waiting();
         self.into_stopped()
     }
 
-    /// The true content after a loss of power.
+    /// The true content after a crash.
     fn into_stopped(self) -> MemDevice {
         let Reordered {
             told: _,
@@ -124,7 +123,7 @@ impl Reordered {
         }
     }
 
-    /// Takes a write, after the waiting flush unless the write overtakes it.
+    /// Writes, after the waiting flush unless the write overtakes it.
     fn write_real(&mut self, area: Area, n: u64, bytes: &[u8])
         ensures { self.new.told ≡ self.old.told }
     {
@@ -144,7 +143,7 @@ impl Reordered {
         }
     }
 
-    /// Lets a flush wait.
+    /// Makes a flush wait.
     fn flush_real(&mut self, area: Area)
         ensures { self.new.told ≡ self.old.told }
     {
@@ -193,7 +192,7 @@ impl WrongJournal {
         Ok(StopAt::new(disk, k))
     }
 
-    /// The disk of a run, which stops at write `stop`, or never; call `call` fails, or is lost if this journal ignores failures.
+    /// The disk of a run. It stops at write `stop`; call `call` fails, or is lost if this journal ignores failures.
     fn run_device(
         &self,
         disk: MemDevice,
@@ -209,7 +208,7 @@ impl WrongJournal {
         Ok(FailOnce::new(StopAt::new(disk, stop), fails))
     }
 
-    /// Opens an empty log for a run; the stop and the call are counted after that.
+    /// Opens an empty log for a run, and counts the stop and the call from then on.
     fn opened(
         &self,
         alloc: Global,
@@ -228,7 +227,7 @@ impl WrongJournal {
     }
 }
 
-/// The number of a call after the opening, counted from before it; `NEVER` for none.
+/// The number of a call, counted from 1 after the opening, as counted from before it; `NEVER` for none.
 fn call_behind_opening(
     alloc: Global,
     measures: &Measures,
@@ -262,6 +261,7 @@ fn stopped(performed: Performed<WrongDevice>) -> Stopped {
         device,
         sealed,
         acknowledged,
+        open_wait: _,
     } = performed;
     Stopped {
         device: real_of(device.into_inner()),
@@ -300,7 +300,7 @@ impl Swept for WrongJournal {
     }
 
     fn calls(&self, alloc: Global, script: &Script) -> Result<u64, Fault> {
-        // It makes the calls of this project's journal, in whatever order.
+        // It makes this journal's calls, in whatever order.
         calls_of_run(alloc, script)
     }
 

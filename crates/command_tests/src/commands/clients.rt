@@ -1,4 +1,4 @@
-//! Clients of a script, each in a thread of its own.
+//! Clients of a script, each in its own thread.
 use super::text_of;
 use script_threads::threads;
 use std::alloc::Global;
@@ -7,13 +7,13 @@ use std::sync::Wait;
 use std::test::Fail;
 use std::thread::Threads;
 
-/// Two clients, of which each starts two handles and waits for both.
+/// Two clients, each of which starts two handles and waits for both.
 const TWO_CLIENTS: &str = r#"{"clients": [
     [["start",1],["write",3,"01"],["stop"],["wait"],["start",1],["write",3,"02"],["stop"],["wait"]],
     [["start",1],["write",4,"03"],["stop"],["wait"],["start",2],["write",3,"04"],["revoke",5],["stop"],["wait"]]
 ]}"#;
 
-/// What is printed of them.
+/// The output for them.
 const SERVED: &str =
     "clients 2\nhandles 4\nreceipts 4\nverdict credits ok\nverdict receipts ok\nverdict order ok\nverdict recovery ok\n| Fine";
 
@@ -23,7 +23,7 @@ const TOO_MANY: &str = r#"{"clients": [[["start",7]]]}"#;
 /// How often the two clients run.
 const RUNS: u32 = 1000;
 
-/// What `threads` says of a script.
+/// The output of `threads` for a script.
 fn said<T: Threads + Wait + Sync>(rt: &T, alloc: Global, script: &str) -> Result<String, Fail> {
     let mut out = Vec::new(alloc);
     let mut err = Vec::new(alloc);
@@ -31,7 +31,7 @@ fn said<T: Threads + Wait + Sync>(rt: &T, alloc: Global, script: &str) -> Result
     text_of(alloc, &out, &err, status)
 }
 
-/// What `threads` says of a script the first time that it says something else, if it does.
+/// The first other output of `threads` for a script, if any.
 fn first_other<T: Threads + Wait + Sync>(
     rt: &T,
     alloc: Global,
@@ -47,7 +47,7 @@ fn first_other<T: Threads + Wait + Sync>(
     Ok(None)
 }
 
-/// A thousand times, with each of the four verdicts ok.
+/// A thousand runs, each with four ok verdicts.
 #[test]
 fn two_clients_are_served(rt: HostRuntime) -> Result<(), Fail> {
     let other = first_other(&rt, rt.alloc(), TWO_CLIENTS, SERVED)?;

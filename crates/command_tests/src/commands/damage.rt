@@ -1,12 +1,11 @@
-//! Logs in files that are damaged or ahead: what is taken of them, what would be, and logs that are made beside a home area that stays.
+//! Logs in files that are damaged or ahead: what is taken of them, and what would be; and logs that are made while home is kept.
 use super::{Step, byte_at, first_other};
 use std::test::Fail;
 use std::{fs, io};
 
-/// The folder of the files.
 const FOLDER: &str = "damage";
 
-/// Three transactions of one block each, which stand in the blocks 1 to 3, 4 to 6 and 7 to 9 of a log that was just made.
+/// Three transactions of one block each, in the blocks 1 to 3, 4 to 6 and 7 to 9 of a new log.
 const SCRIPT: &str = r#"{"ops": [
     ["start",1,1],["write",1,9,"11"],["stop",1],["request",1],["commit"],
     ["start",2,1],["write",2,10,"22"],["stop",2],["request",2],["commit"],
@@ -41,7 +40,7 @@ commit = 4
     ),
 ];
 
-/// What an opening of the log would do, with nothing damaged; nothing is written by it.
+/// Plans of openings of an undamaged log; they write nothing.
 const PLANS: [Step; 2] = [
     (
         "jbench recover damage/log damage/home --dry-run",
@@ -53,13 +52,13 @@ const PLANS: [Step; 2] = [
     ),
 ];
 
-/// Where the descriptor of the third transaction has the flags of its tag.
+/// The place of the flags of the third transaction's tag.
 const TAG_FLAGS: usize = 7 * 1024 + 19;
 
-/// A tag that is deleted, which no writer makes.
+/// The flags of a deleted tag, which no writer makes.
 const DELETED: &[u8] = b"\x0c";
 
-/// The third transaction is damaged: the commands that write nothing.
+/// The third transaction is damaged: commands that write nothing.
 const REFUSED: [Step; 6] = [
     (
         "jbench dump damage/log",
@@ -101,7 +100,7 @@ would recover end=4 next=5 transactions=2 blocks=2
     ),
 ];
 
-/// And those that take the transactions before it.
+/// Commands that take the transactions before it.
 const TAKEN: [Step; 4] = [
     (
         "jbench recover damage/log damage/home --before-damage",
@@ -124,7 +123,7 @@ recovered end=4 next=5 transactions=2
     ),
 ];
 
-/// A block of the ring behind all that was written.
+/// A ring block after all that was written.
 const FREE_BLOCK: usize = 20 * 1024;
 
 /// A commit block of transaction 40.
@@ -154,7 +153,7 @@ const AHEAD: [Step; 5] = [
     ),
 ];
 
-/// A home area of ten blocks, which is too short for the second transaction.
+/// A home area of ten blocks, too short for the second transaction.
 const SHORT: [Step; 2] = [
     (
         "jbench recover damage/log damage/home",
@@ -174,7 +173,7 @@ would recover end=3 next=5 transactions=1 blocks=1
     ),
 ];
 
-/// Logs beside a home area of ten blocks that stays, and those that are not made.
+/// Logs that are made, or refused, while a home area of ten blocks is kept.
 const KEPT: [Step; 7] = [
     (
         "jbench format damage/log damage/home --keep-home --home 11",
@@ -214,7 +213,7 @@ fn prepare(rt: &HostRuntime) -> Result<Option<String>, Fail> {
     first_other(rt, &MAKE)
 }
 
-/// Writes bytes over those at this place of the log.
+/// Writes bytes over the log at this place.
 fn write_over(rt: &HostRuntime, place: usize, bytes: &[u8]) -> io::Result<()> {
     let mut log = fs::read(rt, "damage/log")?;
     for (byte, to) in bytes.iter().zip(log.iter_mut().skip(place)) {
@@ -223,7 +222,7 @@ fn write_over(rt: &HostRuntime, place: usize, bytes: &[u8]) -> io::Result<()> {
     fs::write(rt, "damage/log", &log)
 }
 
-/// The first of the steps whose command says something else, and what that is; or that one of the files changed.
+/// The first step with another output, and that output; or that a file changed.
 fn first_writing(rt: &HostRuntime, steps: &[Step]) -> Result<Option<String>, Fail> {
     let (log, home) = (fs::read(rt, "damage/log")?, fs::read(rt, "damage/home")?);
     let other = first_other(rt, steps)?;
@@ -235,7 +234,7 @@ fn first_writing(rt: &HostRuntime, steps: &[Step]) -> Result<Option<String>, Fai
     Ok(other)
 }
 
-/// How the blocks 9 to 11 of the home area begin.
+/// The first bytes of home blocks 9 to 11.
 fn beginnings(rt: &HostRuntime) -> Result<[u8; 3], Fail> {
     let home = fs::read(rt, "damage/home")?;
     Ok([
@@ -245,7 +244,7 @@ fn beginnings(rt: &HostRuntime) -> Result<[u8; 3], Fail> {
     ])
 }
 
-/// What comes to something else than is wanted where the third transaction is damaged, and then where a block is ahead.
+/// The unexpected results with a damaged third transaction, then with a block that is ahead.
 fn first_damaged(rt: &HostRuntime) -> Result<[Option<String>; 5], Fail> {
     let made = prepare(rt)?;
     let planned = first_writing(rt, &PLANS)?;
@@ -256,7 +255,7 @@ fn first_damaged(rt: &HostRuntime) -> Result<[Option<String>; 5], Fail> {
     Ok([made, planned, refused, taken, first_other(rt, &AHEAD)?])
 }
 
-/// What comes to something else than is wanted where the home area is short, and then where it stays beside a log that is made.
+/// The unexpected results with a short home area, then with home kept while a log is made.
 fn first_short(rt: &HostRuntime, home: &[u8]) -> Result<[Option<String>; 3], Fail> {
     let made = prepare(rt)?;
     fs::write(rt, "damage/home", home)?;

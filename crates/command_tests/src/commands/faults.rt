@@ -11,7 +11,7 @@ use std::test::Fail;
 const ONE_WRITE: &str =
     r#"{"ops": [["start",1,1],["write",1,9,"11"],["stop",1],["request",1],["commit"],["wait",1]]}"#;
 
-/// The words of no stop.
+/// No stop.
 fn no_stop(alloc: Global) -> StopWords {
     StopWords {
         at_write: None,
@@ -31,7 +31,6 @@ fn words(alloc: Global) -> RunWords<'static> {
     }
 }
 
-/// A reader that fails.
 #[derive(Drop)]
 struct BrokenReader;
 
@@ -41,7 +40,7 @@ impl Read for BrokenReader {
     }
 }
 
-/// A writer that fails behind so many calls.
+/// A writer that fails after this many calls.
 #[derive(Drop)]
 struct BrokenWriter {
     calls: u32,
@@ -61,7 +60,7 @@ impl Write for BrokenWriter {
     }
 }
 
-/// What a run says of a script that can't be read.
+/// The output of a run whose script cannot be read.
 fn said_of_no_script(alloc: Global) -> Result<String, Fail> {
     let mut out = Vec::new(alloc);
     let mut err = Vec::new(alloc);
@@ -79,7 +78,7 @@ fn a_script_that_cannot_be_read(rt: HostRuntime) -> Result<(), Fail> {
     Ok(())
 }
 
-/// Whether a run whose output breaks behind so many calls fails, and says nothing of it.
+/// Whether a run whose output fails after this many calls fails too, without a message.
 fn is_broken(alloc: Global, calls: u32) -> bool {
     let mut err = Vec::new(alloc);
     let writer = BrokenWriter { calls };
@@ -87,7 +86,7 @@ fn is_broken(alloc: Global, calls: u32) -> bool {
     answer.is_err() && err.is_empty()
 }
 
-/// The first number of calls up to nine behind which it is otherwise.
+/// The first number of calls, up to nine, with another result.
 fn first_whole(alloc: Global) -> Option<u32> {
     for calls in 0..10 {
         if !is_broken(alloc, calls) {

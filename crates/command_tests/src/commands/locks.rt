@@ -1,18 +1,19 @@
-//! Commands over files that another program has.
-use super::{Step, first_other};
+//! Commands over files that another program has locked.
+use super::{Step, first_other, said};
 use file_device::{Unlocked, lock, lock_shared};
-use std::fs;
 use std::fs::{File, OpenOptions};
 use std::test::Fail;
+use std::thread::Threads;
+use std::time::{Duration, Instant};
+use std::{fs, thread};
 
-/// The folder of the files.
 const FOLDER: &str = "locked";
 
 /// A script that writes nothing.
 const SCRIPT: &str = r#"{"ops": []}"#;
 
 /// Commands while another program reads and writes the log. The file that one of them makes stays, and the last finds it.
-const LOG_IS_WRITTEN: [Step; 8] = [
+const LOG_IS_WRITTEN: [Step; 9] = [
     (
         "jbench format locked/log locked/home",
         "| jbench: file locked/log\n  another program has it\nRefused",
@@ -35,6 +36,10 @@ const LOG_IS_WRITTEN: [Step; 8] = [
     ),
     (
         "jbench apply locked/log locked/home locked/script",
+        "| jbench: file locked/log\n  another program has it\nRefused",
+    ),
+    (
+        "jbench recover locked/log locked/home --wait 1",
         "| jbench: file locked/log\n  another program has it\nRefused",
     ),
     (
@@ -91,7 +96,7 @@ const LOG_IS_READ: [Step; 4] = [
     ),
 ];
 
-/// Commands while nobody else has a file. Each leaves its locks behind it.
+/// Commands while no other program has a file; each releases its locks.
 const NOBODY: [Step; 4] = [
     (
         "jbench format locked/log locked/home",
@@ -111,7 +116,7 @@ const NOBODY: [Step; 4] = [
     ),
 ];
 
-/// The first of the rows that comes to something else while this file is written by another program.
+/// The first row with another result while another program writes this file.
 fn first_while_written(
     rt: &HostRuntime,
     path: &str,
@@ -122,26 +127,26 @@ fn first_while_written(
     first_other(rt, rows)
 }
 
-/// The first of the rows that comes to something else while this file is read by another program.
+/// The first row with another result while another program reads this file.
 fn first_while_read(rt: &HostRuntime, path: &str, rows: &[Step]) -> Result<Option<String>, Fail> {
     let file = opened(rt, path)?;
     lock_shared(&file)?;
     first_other(rt, rows)
 }
 
-/// A file that is there.
+/// An existing file.
 fn opened(rt: &HostRuntime, path: &str) -> Result<File, Fail> {
     Ok(OpenOptions::new().read(true).write(true).open(rt, path)?)
 }
 
-/// Whether the files hold what they held, and the one that was made is empty.
+/// Whether the files are unchanged, and the made one is empty.
 fn is_untouched(rt: &HostRuntime, log: &[u8], home: &[u8]) -> Result<bool, Fail> {
     let same_log = fs::read(rt, "locked/log")?.as_slice() == log;
     let same_home = fs::read(rt, "locked/home")?.as_slice() == home;
     Ok(same_log && same_home && fs::read(rt, "locked/new")?.is_empty())
 }
 
-/// Which of these come to something else than is wanted, while other programs have files.
+/// The unexpected results while other programs have files.
 fn others(rt: &HostRuntime) -> Result<[Option<String>; 3], Fail> {
     Ok([
         first_while_written(rt, "locked/log", &LOG_IS_WRITTEN)?,
@@ -150,12 +155,35 @@ fn others(rt: &HostRuntime) -> Result<[Option<String>; 3], Fail> {
     ])
 }
 
-/// Whether a lock was not taken since another opening has one.
+/// The output for these words while another thread has this file's lock for `milliseconds`, and whether it took that long.
+fn said_behind<T: Threads>(
+    rt: HostRuntime,
+    threads: &T,
+    path: &str,
+    milliseconds: u64,
+    line: &'static str,
+) -> Result<(String, bool), Fail> {
+    let time = Duration::from_millis(milliseconds);
+    let file = opened(&rt, path)?;
+    lock(&file)?;
+    let begun = Instant::now(&rt)?;
+    let holder = thread::spawn(threads, move || {
+        let _slept = thread::sleep(&rt, time);
+        drop(file);
+    })?;
+    let said = said(&rt, line);
+    let taken = begun.elapsed(&rt);
+    holder.join(threads);
+    let said = said?;
+    Ok((said, taken? >= time))
+}
+
+/// Whether a lock was refused because another opening has one.
 fn is_held<L: Drop>(taken: Result<L, Unlocked>) -> bool {
     matches!(taken, Err(Unlocked::Held))
 }
 
-/// Which locks two openings of a file can have at once: two readers, a reader and then a writer, a writer and then either.
+/// Which locks two openings of a file can have at once: two readers; a reader, then a writer; a writer, then either.
 fn held(rt: &HostRuntime) -> Result<[bool; 4], Fail> {
     let (one, other) = (opened(rt, "locked/log")?, opened(rt, "locked/log")?);
     lock_shared(&one)?;
@@ -188,5 +216,45 @@ fn files_that_another_program_has(rt: HostRuntime) -> Result<(), Fail> {
     assert!(rt; is_untouched(&rt, &log, &home)?, "refused commands");
     assert_eq!(rt; held(&rt)?, [false, true, true, true]);
     fs::remove_dir_all(&rt, FOLDER)?;
+    Ok(())
+}
+
+/// Commands that wait for a file that another thread has for half a second.
+const WAITING: [(&str, Step); 3] = [
+    (
+        "awaited/log",
+        (
+            "jbench recover awaited/log awaited/home --wait 60",
+            "clean next=2\n| Fine",
+        ),
+    ),
+    (
+        "awaited/home",
+        (
+            "jbench apply awaited/log awaited/home awaited/script --wait 60",
+            "clean next=2\nclosed next=2\n| Fine",
+        ),
+    ),
+    (
+        "awaited/log",
+        (
+            "jbench recover awaited/log awaited/home --dry-run --wait 60",
+            "clean next=2\n| Fine",
+        ),
+    ),
+];
+
+#[test]
+fn files_that_are_waited_for(rt: HostRuntime) -> Result<(), Fail> {
+    let _ = fs::remove_dir_all(&rt, "awaited");
+    fs::create_dir(&rt, "awaited")?;
+    fs::write(&rt, "awaited/script", SCRIPT.as_bytes())?;
+    said(&rt, "jbench format awaited/log awaited/home")?;
+    for (path, (line, wanted)) in WAITING {
+        let (said, is_long) = said_behind(rt, &rt, path, 500, line)?;
+        assert_eq!(rt; said.as_str(), wanted);
+        assert!(rt; is_long, "it waited");
+    }
+    fs::remove_dir_all(&rt, "awaited")?;
     Ok(())
 }

@@ -1,15 +1,18 @@
-//! The commands `format` and `dump`, over files.
+//! The commands `format` and `dump` over files.
 use super::{Step, first_other, text_of};
 use file_device::{FileDevice, UnknownContents};
 use jbench_files::{Cleared, make_device, open_log, open_or_make_pair};
 use jbench_logs::logs::{dump, format};
+use jbench_words::watch::{Step as CommandStep, Unwatched, Watch};
 use jbench_words::words::LogPaths;
+use journal_model::Area;
 use journal_script::{DEFAULTS, Measures};
 use std::alloc::Global;
+use std::fmt::Write;
 use std::fs;
 use std::test::Fail;
 
-/// What `dump` says of the log in this file.
+/// The output of `dump` for the log in this file.
 fn dump_of(rt: &HostRuntime, log: &str) -> Result<String, Fail> {
     let mut device = open_log(rt.alloc(), UnknownContents, rt, log)?;
     let mut out = Vec::new(rt.alloc());
@@ -18,7 +21,7 @@ fn dump_of(rt: &HostRuntime, log: &str) -> Result<String, Fail> {
     text_of(rt.alloc(), &out, &err, status)
 }
 
-/// What `format` says of an empty log on this device.
+/// The output of `format` for an empty log on this device.
 fn format_of(
     alloc: Global,
     measures: &Measures,
@@ -31,14 +34,20 @@ fn format_of(
     text_of(alloc, &out, &err, status)
 }
 
-/// Makes an empty log of the files `empty_log` and `empty_home`. The answer is what `format` says of it.
+/// Makes an empty log in `empty_log` and `empty_home`, and returns the output of `format`.
 fn make(rt: &HostRuntime, measures: &Measures) -> Result<String, Fail> {
     let paths = LogPaths {
         log: "empty_log",
         home: "empty_home",
     };
     match open_or_make_pair(rt, paths, None) {
-        Ok(files) => match make_device(rt.alloc(), UnknownContents, measures, files) {
+        Ok(files) => match make_device(
+            rt.alloc(),
+            UnknownContents,
+            measures,
+            files,
+            &mut Unwatched,
+        ) {
             Ok(device) => format_of(rt.alloc(), measures, device),
             Err(unmade) => Err(Fail::from(unmade.error)),
         },
@@ -46,7 +55,7 @@ fn make(rt: &HostRuntime, measures: &Measures) -> Result<String, Fail> {
     }
 }
 
-/// How many bytes both files have, and how many of those of the home area are not zero.
+/// The bytes of both files, and how many of the home area's are not zero.
 fn lengths(rt: &HostRuntime) -> Result<(usize, usize, usize), Fail> {
     let log = fs::read(rt, "empty_log")?;
     let home = fs::read(rt, "empty_home")?;
@@ -54,7 +63,7 @@ fn lengths(rt: &HostRuntime) -> Result<(usize, usize, usize), Fail> {
     Ok((log.len(), home.len(), others))
 }
 
-/// Makes such a log. The answer is what `format` and then `dump` say of it, and the lengths of its files.
+/// Makes such a log, and returns the output of `format` and `dump`, and the files' lengths.
 fn made(rt: &HostRuntime, measures: &Measures) -> Result<String, Fail> {
     let formatted = make(rt, measures)?;
     let dumped = dump_of(rt, "empty_log")?;
@@ -62,7 +71,7 @@ fn made(rt: &HostRuntime, measures: &Measures) -> Result<String, Fail> {
     Ok(format!(in rt.alloc(); "{formatted}\n{dumped}\n{lengths:?}")?)
 }
 
-/// Makes such a log of files that are longer than most, and hold no zeros.
+/// Makes such a log in files that are longer and hold other bytes.
 fn made_of_longer(rt: &HostRuntime, measures: &Measures) -> Result<String, Fail> {
     let longer = vec![in rt.alloc(); 7; 100_000]?;
     fs::write(rt, "empty_log", &longer)?;
@@ -70,7 +79,7 @@ fn made_of_longer(rt: &HostRuntime, measures: &Measures) -> Result<String, Fail>
     made(rt, measures)
 }
 
-/// What is said of a log of the default measures.
+/// The output for a log of the default measures.
 const DEFAULT_LOG: &str = "\
 formatted 33 blocks of 1024
 | Fine
@@ -88,7 +97,7 @@ const SHORTEST: Measures = Measures {
     wide: false,
 };
 
-/// What is said of a log of these measures.
+/// The output for a log of these measures.
 const SHORTEST_LOG: &str = "\
 formatted 17 blocks of 4096
 | Fine
@@ -97,7 +106,7 @@ empty sequence=1
 | Fine
 (69632, 4096, 0)";
 
-/// Whether this is said of such a log of new files, and of longer ones.
+/// Whether this is the output for such a log of new files, and of longer ones.
 fn is_made(rt: &HostRuntime, measures: &Measures, wanted: &str) -> Result<bool, Fail> {
     let of_new = made(rt, measures)?;
     let of_longer = made_of_longer(rt, measures)?;
@@ -116,7 +125,57 @@ fn logs_in_new_files_and_in_longer_ones(rt: HostRuntime) -> Result<(), Fail> {
     Ok(())
 }
 
-/// Writes the file `no_log`, which is so long and all zeros but for the byte that tells of blocks of 4096 bytes.
+/// Records the progress of files that are filled.
+#[derive(Drop)]
+struct Pieces<'a> {
+    text: &'a mut String,
+}
+
+impl Watch for Pieces<'_> {
+    fn goes_on(&mut self, step: CommandStep) {
+        if let CommandStep::Fills { area, at, bytes } = step {
+            let name = match area {
+                Area::Log => "log",
+                Area::Home => "home",
+            };
+            let _written = writeln!(self.text, "{name} from {at} of {bytes}");
+        }
+    }
+
+    fn ends(&mut self) {}
+}
+
+/// The progress while a log of these measures is made of the new files `filled_log` and `filled_home`.
+fn filling_lines(rt: &HostRuntime, measures: &Measures) -> Result<String, Fail> {
+    let paths = LogPaths {
+        log: "filled_log",
+        home: "filled_home",
+    };
+    let mut text = String::new(rt.alloc());
+    let mut watch = Pieces { text: &mut text };
+    match open_or_make_pair(rt, paths, None) {
+        Ok(files) => match make_device(rt.alloc(), UnknownContents, measures, files, &mut watch) {
+            Ok(_) => Ok(text),
+            Err(unmade) => Err(Fail::from(unmade.error)),
+        },
+        Err(unopened) => Err(Fail::from(unopened.error)),
+    }
+}
+
+/// In pieces of 65,536 bytes.
+#[test]
+fn it_is_told_how_far_new_files_are_filled(rt: HostRuntime) -> Result<(), Fail> {
+    let told = filling_lines(&rt, &SHORTEST)?;
+    fs::remove_file(&rt, "filled_log")?;
+    fs::remove_file(&rt, "filled_home")?;
+    assert_eq!(rt;
+        told.as_str(),
+        "log from 0 of 69632\nlog from 65536 of 69632\nhome from 0 of 4096\n"
+    );
+    Ok(())
+}
+
+/// Writes the file `no_log` of this length, all zeros except for the byte that says that blocks have 4096 bytes.
 fn write_no_log(rt: &HostRuntime, length: usize) -> Result<(), Fail> {
     let mut bytes = vec![in rt.alloc(); 0; length]?;
     if let Some(place) = bytes.get_mut(14) {
@@ -126,17 +185,17 @@ fn write_no_log(rt: &HostRuntime, length: usize) -> Result<(), Fail> {
     Ok(())
 }
 
-/// Whether the dump of such a file says this.
+/// Whether this is the dump of such a file.
 fn is_no_log(rt: &HostRuntime, length: usize, wanted: &str) -> Result<bool, Fail> {
     write_no_log(rt, length)?;
     Ok(dump_of(rt, "no_log")?.as_str() == wanted)
 }
 
-/// What the dump of a file says that has not one block.
+/// The dump's message for a file shorter than a block.
 const TOO_SHORT: &str =
     "| jbench: refusal 16 BadLength\n  the file is too short for its log, or that says a length which no log has\n  it has not one whole block: is it the right file?\nRefused";
 
-/// What the dump of a file says whose first block is no superblock.
+/// The dump's message for a file whose first block is no superblock.
 const NO_SUPERBLOCK: &str =
     "| jbench: refusal 13 BadMagic\n  no log stands there: jbench show LOG says what does, and what to do then\nRefused";
 
@@ -149,7 +208,7 @@ fn files_that_hold_no_log(rt: HostRuntime) -> Result<(), Fail> {
     Ok(())
 }
 
-/// Logs that are made over files that are there, and those that have to be new.
+/// Logs that are made over existing files, and logs that must be new.
 const REMADE: [Step; 9] = [
     (
         "jbench format remade/log remade/home --new",

@@ -1,4 +1,4 @@
-//! Files that can't be opened, and words that are no text.
+//! Files that cannot be opened, and words that are not UTF-8.
 use jbench_files::{Unopened, open_or_make_pair, open_pair, open_text};
 use jbench_words::arguments::{self, Arguments};
 use jbench_words::words::LogPaths;
@@ -8,10 +8,10 @@ use std::fs;
 use std::os::unix::fs::symlink;
 use std::test::Fail;
 
-/// What the one file has that is there before.
+/// The content of the files that exist before.
 const KEPT: &[u8] = b"kept";
 
-/// Makes a folder with one file, a link to that, and a folder.
+/// Makes a folder with two files, a link to one, and a folder.
 fn prepare(rt: &HostRuntime) -> Result<(), Fail> {
     let _ = fs::remove_dir_all(rt, "paths");
     fs::create_dir(rt, "paths")?;
@@ -21,7 +21,7 @@ fn prepare(rt: &HostRuntime) -> Result<(), Fail> {
     Ok(symlink(rt, "there", "paths/link")?)
 }
 
-/// Whether the files that were there before hold what they held, and none was made.
+/// Whether the files that existed before are unchanged, and none was made.
 fn is_untouched(rt: &HostRuntime) -> Result<bool, Fail> {
     let there = fs::read(rt, "paths/there")?;
     let other = fs::read(rt, "paths/other")?;
@@ -29,10 +29,10 @@ fn is_untouched(rt: &HostRuntime) -> Result<bool, Fail> {
     Ok(there.as_slice() == KEPT && other.as_slice() == KEPT && !made)
 }
 
-/// The paths of a log and of its home area, and whether the second is the one that is refused.
+/// The paths of a log and its home area, and whether the second is refused.
 type Row = (&'static str, &'static str, bool);
 
-/// Paths of files that can't be made the files of a log, and of which none is made.
+/// Paths that cannot be a log's files, with no file made.
 const NOT_MADE: [Row; 9] = [
     ("paths/new", "paths/missing/home", true),
     ("paths/new", "paths/folder", true),
@@ -45,13 +45,13 @@ const NOT_MADE: [Row; 9] = [
     ("/dev/null", "paths/new", false),
 ];
 
-/// Paths of files that can't be made the files of a log, of which one is made before that shows.
+/// Paths that cannot be a log's files, with one file made before that shows.
 const HALF_MADE: [Row; 2] = [
     ("paths/new", "paths/new", true),
     ("paths/new", "paths/folder/../new", true),
 ];
 
-/// Paths of files that can't be opened as those of a log.
+/// Paths that cannot be opened as a log's files.
 const NOT_OPENED: [Row; 7] = [
     ("paths/there", "paths/there", true),
     ("paths/there", "paths/link", true),
@@ -62,32 +62,32 @@ const NOT_OPENED: [Row; 7] = [
     ("/dev/null", "paths/there", false),
 ];
 
-/// Whether this is the path that a row has refused, and all is left as it was.
+/// Whether this is the path that the row has refused, and nothing changed.
 fn is_refused(rt: &HostRuntime, row: Row, path: &str) -> Result<bool, Fail> {
     let (log, home, is_home) = row;
     Ok(path == if is_home { home } else { log } && is_untouched(rt)?)
 }
 
-/// Whether the file that was made is there, empty, and is the one that is told of. It is taken away here.
+/// Whether the made file is there, empty, and reported. It is removed here.
 fn is_left(rt: &HostRuntime, made: [Option<&str>; 2]) -> Result<bool, Fail> {
     let is_empty = fs::read(rt, "paths/new")?.is_empty();
     fs::remove_file(rt, "paths/new")?;
     Ok(is_empty && made == [Some("paths/new"), None])
 }
 
-/// Whether a row is refused so, and the log that was made for it is left.
+/// Whether the row is refused as it says, and the log made for it is left.
 fn leaves_its_log(rt: &HostRuntime, row: Row, unopened: &Unopened<'_>) -> Result<bool, Fail> {
     let made = unopened.made;
     Ok(is_left(rt, made)? && is_refused(rt, row, unopened.path)?)
 }
 
-/// Whether a row is refused so, and no file was made for it.
+/// Whether the row is refused as it says, and no file was made.
 fn makes_nothing(rt: &HostRuntime, row: Row, unopened: &Unopened<'_>) -> Result<bool, Fail> {
     let made = unopened.made;
     Ok(made == [None, None] && is_refused(rt, row, unopened.path)?)
 }
 
-/// The first of the rows that does not leave its log behind, made and empty, where its home area is refused.
+/// The first row that does not leave its made, empty log when its home area is refused.
 fn first_not_left(rt: &HostRuntime) -> Result<Option<&'static str>, Fail> {
     for row in HALF_MADE {
         let (log, home, _) = row;
@@ -99,7 +99,7 @@ fn first_not_left(rt: &HostRuntime) -> Result<Option<&'static str>, Fail> {
     Ok(None)
 }
 
-/// The first of the rows whose files are made.
+/// The first row whose files are made.
 fn first_made(rt: &HostRuntime) -> Result<Option<&'static str>, Fail> {
     for row in NOT_MADE {
         let (log, home, _) = row;
@@ -111,7 +111,7 @@ fn first_made(rt: &HostRuntime) -> Result<Option<&'static str>, Fail> {
     Ok(None)
 }
 
-/// The first of the rows whose files are opened.
+/// The first row whose files are opened.
 fn first_opened(rt: &HostRuntime) -> Result<Option<&'static str>, Fail> {
     for row in NOT_OPENED {
         let (log, home, _) = row;
@@ -123,7 +123,7 @@ fn first_opened(rt: &HostRuntime) -> Result<Option<&'static str>, Fail> {
     Ok(None)
 }
 
-/// Whether a pair of which one file is there is opened, and the other is made, with no bytes.
+/// Whether a pair with one existing file is opened, and the other is made, empty.
 fn is_half_made(rt: &HostRuntime, log: &'static str, home: &'static str) -> Result<bool, Fail> {
     let taken = open_or_make_pair(rt, LogPaths { log, home }, None).is_ok();
     let bytes = fs::read(rt, "paths/new")?;
@@ -131,7 +131,7 @@ fn is_half_made(rt: &HostRuntime, log: &'static str, home: &'static str) -> Resu
     Ok(taken && bytes.is_empty() && is_untouched(rt)?)
 }
 
-/// Whether a script's own file is refused as either file of a log, and all is left as it was but for a log that is made beside it.
+/// Whether a script's own file is refused as either file of a log, and nothing changes except for a log that is made.
 fn is_no_script(rt: &HostRuntime) -> Result<bool, Fail> {
     let script = open_text(rt, "paths/there")?;
     let as_log = LogPaths {
@@ -150,7 +150,7 @@ fn is_no_script(rt: &HostRuntime) -> Result<bool, Fail> {
     Ok(log_is_refused && home_is_refused && is_untouched(rt)?)
 }
 
-/// Which of a regular file, a folder, a device and a missing file can be opened to be read.
+/// Which of a regular file, a folder, a device and a missing file can be opened to read.
 fn are_read(rt: &HostRuntime) -> [bool; 4] {
     [
         open_text(rt, "paths/link").is_ok(),
@@ -180,7 +180,7 @@ fn paths_that_are_refused(rt: HostRuntime) -> Result<(), Fail> {
     Ok(())
 }
 
-/// The words that a program is called with.
+/// The words of a program.
 #[derive(Drop)]
 struct Given<'a> {
     words: &'a [&'a [u8]],
@@ -207,7 +207,7 @@ impl Env for Given<'_> {
     }
 }
 
-/// The words of a program, in brackets, and the first of them that is no text.
+/// A program's words, in brackets, and the first that is not UTF-8.
 fn told(alloc: Global, words: &[&[u8]]) -> Result<String, Fail> {
     let arguments: Arguments = arguments::read(&Given { words }, alloc)?;
     let mut text = String::new(alloc);

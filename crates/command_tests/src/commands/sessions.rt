@@ -1,15 +1,13 @@
-//! Commands one after the other over the same files: what each prints, and what the files then hold.
+//! Commands in turn over the same files: what each prints, and what the files then hold.
 use super::{Step, byte_at, first_other};
 use std::fs;
 use std::test::Fail;
 
-/// The folder of the files.
 const FOLDER: &str = "session";
 
 /// A script's file and its text.
 type Script = (&'static str, &'static str);
 
-/// The scripts.
 const SCRIPTS: [Script; 9] = [
     (
         "session/two.json",
@@ -43,8 +41,8 @@ const SCRIPTS: [Script; 9] = [
     ),
 ];
 
-/// Commands over one log, in their order. The numbers follow the rules of the format: an opening passes over one number, and
-/// a close names the number that its next transaction would have got.
+/// Commands over one log, in order. The numbers follow the format's rules: an opening skips one number, and a close names the number that
+/// the next transaction would have got.
 const STEPS: [Step; 38] = [
     (
         "jbench format session/log session/home",
@@ -349,7 +347,7 @@ fn prepare(rt: &HostRuntime) -> Result<(), Fail> {
     Ok(())
 }
 
-/// How the blocks 8 to 11 of this file of a home area begin, of 1024 bytes each.
+/// The first bytes of blocks 8 to 11, of 1024 bytes each, of a home area's file.
 fn beginnings(rt: &HostRuntime, path: &str) -> Result<[u8; 4], Fail> {
     let home = fs::read(rt, path)?;
     Ok([

@@ -1,16 +1,14 @@
-//! Commands over the files of a log whose block numbers have 64 bits, and of one that is upgraded to them.
+//! Commands over a log in files with 64-bit block numbers, and over one that is upgraded to them.
 use super::{Step, byte_at, first_other, said};
 use std::alloc::Global;
 use std::fs;
 use std::test::Fail;
 
-/// The folder of the files.
 const FOLDER: &str = "wide";
 
 /// A script's file and its text.
 type Script = (&'static str, &'static str);
 
-/// The scripts.
 const SCRIPTS: [Script; 3] = [
     (
         "wide/one.json",
@@ -23,7 +21,7 @@ const SCRIPTS: [Script; 3] = [
     ),
 ];
 
-/// Commands over one log, in their order.
+/// Commands over one log, in order.
 const STEPS: [Step; 7] = [
     (
         "jbench format wide/log wide/home --wide",
@@ -85,10 +83,10 @@ fn commands_over_a_wide_log(rt: HostRuntime) -> Result<(), Fail> {
     Ok(())
 }
 
-/// The folder of the files of a log that is upgraded.
+/// The folder for an upgraded log.
 const UPGRADED: &str = "upgraded";
 
-/// Its scripts: seven transactions of five log blocks each, so that the last one goes over the end of the ring, and one more.
+/// Its scripts: seven transactions of five log blocks each, so that the last crosses the ring's end; and one more.
 const UPGRADED_SCRIPTS: [Script; 2] = [
     (
         "upgraded/laps.json",
@@ -107,7 +105,7 @@ const UPGRADED_SCRIPTS: [Script; 2] = [
     ),
 ];
 
-/// Commands over a log that was just formatted, and over what is no log.
+/// Commands over a new log, and over a file that is no log.
 const OF_FORMATTED: [Step; 7] = [
     (
         "jbench format upgraded/log upgraded/home",
@@ -139,7 +137,7 @@ empty sequence=1
     ),
 ];
 
-/// Commands behind the seven transactions, which have the numbers 2 to 8.
+/// Commands after the seven transactions, which have the numbers 2 to 8.
 const BEHIND_LAPS: [Step; 5] = [
     ("jbench upgrade upgraded/log", "upgraded sequence=9\n| Fine"),
     (
@@ -171,7 +169,7 @@ wait 1 = 10
     ),
 ];
 
-/// Commands over the log whose last commit block was not written: where it would stand, the one of transaction 8 does.
+/// Commands over the log without its last commit block: that of transaction 8 is in its place.
 const WITHOUT_COMMIT_BLOCK: [Step; 2] = [
     (
         "jbench dump upgraded/log",
@@ -204,7 +202,7 @@ end sequence=11 transactions=1
     ),
 ];
 
-/// Fails where one of these commands says something else.
+/// Fails if a command has another output.
 fn require(rt: &HostRuntime, steps: &[Step]) -> Result<(), Fail> {
     match first_other(rt, steps)? {
         Some(other) => Err(Fail::new(other)),
@@ -212,7 +210,7 @@ fn require(rt: &HostRuntime, steps: &[Step]) -> Result<(), Fail> {
     }
 }
 
-/// A log with block 3 of another one in the place of its own.
+/// A log with another one's block 3.
 fn with_third_block(alloc: Global, log: &[u8], other: &[u8]) -> Result<Vec<u8>, Fail> {
     let mut all = Vec::new(alloc);
     for n in 0..log.len() {
@@ -226,7 +224,7 @@ fn with_third_block(alloc: Global, log: &[u8], other: &[u8]) -> Result<Vec<u8>, 
     Ok(all)
 }
 
-/// How block 9 of the home area begins.
+/// The first byte of home block 9.
 fn ninth_block(rt: &HostRuntime) -> Result<u8, Fail> {
     Ok(byte_at(&fs::read(rt, "upgraded/home")?, 9216))
 }

@@ -2,7 +2,7 @@ use Rattle.jbench_commands.specs.Applying.{after_told, ending_told}
 use Rattle.jbench_commands.proofs.Unapplying.{behind-reads, only-read, unapplied-behind}
 use Rattle.jbench_commands.proofs.apply.apply.Goals as goal
 
--- an opening of this device was done, which had only been read before, and all behind it
+-- this device, which was only read before, was opened, and everything after that was done
 pub returns-in-Ok-apply_script-clause-done : goal.returns-in-Ok-apply_script-clause-done
 returns-in-Ok-apply_script-clause-done g c = record {
   opened = c.in-Ok-open.opened;
@@ -18,21 +18,21 @@ returns-in-Ok-apply_script-clause-done g c = record {
   done = c.in-Ok-apply_script.ensures.done;
 }
 
--- where the script is refused the device has only been read
+-- after a refused script the device was only read
 pub returns-in-Err-clause-left : goal.returns-in-Err-clause-left
 returns-in-Err-clause-left g c = λ honest. only-read (g.D.Device.state c.args.device) (g.D.Device.state c.prepare.new.device) c.prepare.ensures.stays
 
--- where the log is, a refused opening was made
+-- after a refused log an opening was refused
 pub returns-clause-left : goal.returns-clause-left
 returns-clause-left g c = λ honest.
     behind-reads (g.D.Device.state c.args.device) (g.D.Device.state c.prepare.new.device) (g.D.Device.state c.in-Err-open.device) (g.D.Device.state c.refuse.new.device) c.in-Ok.ensures.stays
     (c.in-Err-open.ensures.moments (c.refuse.ensures.device.honest honest)) c.refuse.ensures.device.stays
 
--- what was done is left
+-- the operations' device is left
 pub returns-in-Ok-open-clause-left : goal.returns-in-Ok-open-clause-left
 returns-in-Ok-open-clause-left g c =
     unapplied-behind g.D.Device.state g.D.Device.honest c.args.device (g.R.Read.remaining c.args.script) c.in-Ok-open.opened c.in-Ok.prepared.operations.items
-    (after_told c.args.words.now.keep_going) (ending_told c.args.words.now.stay) c.in-Err-apply_script.unapplied
+    (after_told c.args.words.now.keep_going c.args.words.now.make_room) (ending_told c.args.words.now.stay) c.in-Err-apply_script.unapplied
     (λ honest. rw (← c.in-Ok.ensures.stays.shape, ← c.in-Ok.ensures.stays.disk) (c.in-Ok-open.ensures.opened honest))
     (record {
       measures = c.in-Ok.ensures.for_device.measures;

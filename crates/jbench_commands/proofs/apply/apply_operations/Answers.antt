@@ -1,19 +1,19 @@
 use Rattle.jbench_commands.proofs.Staying.{behind-closed, behind-next, behind-stays, ended-stays}
 use Rattle.jbench_commands.proofs.apply.apply_operations.Goals as goal
 
--- the device has only been read since
+-- the device was only read since
 pub returns-in-Ok-clause-ended : goal.returns-in-Ok-clause-ended
 returns-in-Ok-clause-ended g c = λ honest.
     rw (c.say_end.ensures.sealed, c.say_end.ensures.acknowledged)
     (ended-stays c.say_end.ensures.device.stays (c.in-Ok.ensures.ended (c.say_end.ensures.device.honest honest)))
 
--- so it is closed still
+-- so its log is still closed
 pub returns-in-Ok-clause-closed : goal.returns-in-Ok-clause-closed
 returns-in-Ok-clause-closed g c = λ ending.
     rw c.say_end.ensures.sealed
     (behind-closed _ c.say_end.ensures.behind ending c.say_end.ensures.device.stays c.say_end.ensures.device.honest (c.in-Ok.ensures.closed ending))
 
--- and its superblock says the number
+-- and its superblock has the number
 pub returns-in-Ok-clause-says : goal.returns-in-Ok-clause-says
 returns-in-Ok-clause-says g c = λ ending.
     behind-next _ c.say_end.ensures.behind ending c.say_end.ensures.device.stays c.say_end.ensures.device.honest (c.in-Ok.ensures.closed ending)
@@ -24,7 +24,7 @@ returns-in-Ok-clause-stays g c = λ ending honest.
     rw (c.say_end.ensures.sealed, c.say_end.ensures.acknowledged)
     (behind-stays c.say_end.ensures.behind ending (c.in-Ok.ensures.stays ending (c.say_end.ensures.device.honest honest)))
 
--- the operations, and what is said behind them
+-- the operations, and the line after them
 pub returns-in-Ok-clause-operated : goal.returns-in-Ok-clause-operated
 returns-in-Ok-clause-operated g c = record {
   device = c.in-Ok.applied.left.device;
@@ -35,6 +35,6 @@ returns-in-Ok-clause-operated g c = record {
   behind = c.say_end.ensures.behind;
 }
 
--- reads were honest at the opening
+-- reads were correct at the opening
 pub returns-in-Ok-clause-honest : goal.returns-in-Ok-clause-honest
 returns-in-Ok-clause-honest g c = λ honest. c.in-Ok.ensures.honest (c.say_end.ensures.device.honest honest)

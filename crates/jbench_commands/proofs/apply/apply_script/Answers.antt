@@ -7,13 +7,13 @@ use Rattle.jbench_commands.specs.Unapplied.{IsUnappliedBehind}
 use Rattle.jbench_commands.proofs.Staying.{was-ok}
 use Rattle.jbench_commands.proofs.apply.apply_script.Goals as goal
 
--- all was done behind the line of the opening
+-- all was done after the opening's line
 pub returns-in-Ok-apply_operations-clause-done : goal.returns-in-Ok-apply_operations-clause-done
 returns-in-Ok-apply_operations-clause-done g c =
     let did = c.in-Ok-apply_operations.ensures in
     let left = c.in-Ok-apply_operations.applied.left in
     let whole : IsOk c.in-Ok-apply_operations.applied.end →
-    IsDoneBehind g.D.Device.state g.D.Device.honest c.args.opened c.args.prepared.operations.items (after_told c.args.words.now.keep_going) (ending_told c.args.words.now.stay)
+    IsDoneBehind g.D.Device.state g.D.Device.honest c.args.opened c.args.prepared.operations.items (after_told c.args.words.now.keep_going c.args.words.now.make_room) (ending_told c.args.words.now.stay)
     left.device left.sealed.items left.acknowledged (line_writer_contents g.W.Write.contents c.args.prepared.out) = λ all. record {
       begun = line_writer_contents g.W.Write.contents c.say_opened.new.out;
       opening = search rules;
@@ -26,20 +26,20 @@ returns-in-Ok-apply_operations-clause-done g c =
     } in
     IfOk-weaker c.left_of.result _ _ (λ done is. rw is.1 (whole is.0)) c.left_of.ensures.all
 
--- and closed, where it was to be
+-- the journal was closed, if it had to be
 pub returns-in-Ok-apply_operations-clause-closed : goal.returns-in-Ok-apply_operations-clause-closed
 returns-in-Ok-apply_operations-clause-closed g c = λ stay.
     IfOk-weaker c.left_of.result _ _
     (λ done is. rw is.1 (was-ok c.in-Ok-apply_operations.applied.end is.0 (c.in-Ok-apply_operations.ensures.closed (c.ending_of.ensures ∙ ap ending_told stay)))) c.left_of.ensures.all
 
--- or it was not, and this is left
+-- not all was done, and this is left
 pub returns-in-Ok-apply_operations-clause-left : goal.returns-in-Ok-apply_operations-clause-left
 returns-in-Ok-apply_operations-clause-left g c =
     let did = c.in-Ok-apply_operations.ensures in
     IfErr-weaker c.left_of.result _ _
     (λ e is.
     subst
-    (λ left. IsUnappliedBehind g.D.Device.state g.D.Device.honest c.args.opened c.args.prepared.operations.items (after_told c.args.words.now.keep_going) (ending_told c.args.words.now.stay) left)
+    (λ left. IsUnappliedBehind g.D.Device.state g.D.Device.honest c.args.opened c.args.prepared.operations.items (after_told c.args.words.now.keep_going c.args.words.now.make_room) (ending_told c.args.words.now.stay) left)
     (sym is.1)
     (record {
       begun = line_writer_contents g.W.Write.contents c.say_opened.new.out;

@@ -2,6 +2,6 @@ use Rattle.std.proofs.Common.{inl, refl}
 use Rattle.jbench_commands.specs.Applying.SaysBehind.{SaysNothing}
 use Rattle.jbench_commands.proofs.apply.say_end.Goals as goal
 
--- nothing is said of a journal that stays
+-- nothing is printed about a journal that stays
 pub returns-in-Stay-clause-behind : goal.returns-in-Stay-clause-behind
 returns-in-Stay-clause-behind g c = SaysNothing (inl c.in-Stay.is) refl refl refl

@@ -13,7 +13,7 @@ returns-then-limit-lt-GREATEST_NUMBER g c =
     subst (λ (b : Bool). OnOk c.writeln.result (Appends (g.W.Write.contents c.args.out.now) (g.W.Write.contents c.writeln.new.self) (codes "closed next=" ++ (if b then decimal (c.args.limit + 1) else codes "none") ++ newline ∷ [])))
     (sym (lt-ltb c.args.limit greatest_number c.if-limit-lt-GREATEST_NUMBER.true)) (simp append_assoc c.writeln.ensures.bytes)
 
--- none is
+-- none is left
 pub returns-else-limit-lt-GREATEST_NUMBER : goal.returns-else-limit-lt-GREATEST_NUMBER
 returns-else-limit-lt-GREATEST_NUMBER g c =
     subst (λ (b : Bool). OnOk c.writeln-else-limit-lt-GREATEST_NUMBER.result (Appends (g.W.Write.contents c.args.out.now) (g.W.Write.contents c.writeln-else-limit-lt-GREATEST_NUMBER.new.self) (codes "closed next=" ++ (if b then decimal (c.args.limit + 1) else codes "none") ++ newline ∷ [])))

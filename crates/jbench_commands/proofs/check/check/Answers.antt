@@ -2,7 +2,7 @@ use Rattle.std.proofs.lemmas.Result.{IfOk-weaker}
 use Rattle.jbench_commands.proofs.Ending.{is-taken}
 use Rattle.jbench_commands.proofs.check.check.Goals as goal
 
--- the script that was read is told good
+-- the script that was read is good
 pub returns-in-Ok-clause-good : goal.returns-in-Ok-clause-good
 returns-in-Ok-clause-good g c =
     IfOk-weaker c.tell.result _ _

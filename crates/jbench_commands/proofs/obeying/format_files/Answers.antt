@@ -5,7 +5,7 @@ use Rattle.jbench_logs.specs.Done.{IsMade}
 use Rattle.jbench_commands.specs.Obeying.{IsDoneOver, over_told, to_format}
 use Rattle.jbench_commands.proofs.obeying.format_files.Goals as goal
 
--- as the words tell
+-- as the words ask
 pub returns-then-words-clause-done : goal.returns-then-words-clause-done
 returns-then-words-clause-done g c =
     let m = c.args.words.now.measures in

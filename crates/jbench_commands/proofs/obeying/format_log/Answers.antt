@@ -3,9 +3,9 @@ use Rattle.std.proofs.lemmas.Result.{IfOk-weaker}
 use Rattle.jbench_commands.proofs.Obeyed.{over-told, not-both}
 use Rattle.jbench_commands.proofs.obeying.format_log.Goals as goal
 
--- over two files, of which the log's is new where it had to be
-pub returns-in-Ok-make_log_device-clause-done : goal.returns-in-Ok-make_log_device-clause-done
-returns-in-Ok-make_log_device-clause-done g c =
+-- over two files, of which the log's is new if it had to be
+pub returns-in-Ok-make_beside_home-clause-done : goal.returns-in-Ok-make_beside_home-clause-done
+returns-in-Ok-make_beside_home-clause-done g c =
     IfOk-weaker c.format_device.result _ _ (λ status made fine. made fine true
-    (over-told c.args.words.now.has_to_be_new true c.in-Ok.files.pair c.in-Ok-make_log_device.device c.in-Ok-make_log_device.ensures
+    (over-told c.args.words.now.has_to_be_new true c.in-Ok.files.pair c.in-Ok-make_beside_home.device c.in-Ok-make_beside_home.ensures
     c.in-Ok.ensures (λ new keep. not-both keep))) c.format_device.ensures.made

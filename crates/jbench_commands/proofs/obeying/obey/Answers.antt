@@ -29,7 +29,7 @@ returns-in-Upgrade-clause-done g c = rw c.in-Upgrade.is c.upgrade_file.ensures.d
 pub returns-in-Apply-clause-done : goal.returns-in-Apply-clause-done
 returns-in-Apply-clause-done g c = rw c.in-Apply.is c.apply_files.ensures.done
 
--- what wants threads is refused, and of the others a sweep alone ends with 2
+-- commands that need threads are refused, and no other ends with 2
 pub returns-in-Threads-clause-done : goal.returns-in-Threads-clause-done
 returns-in-Threads-clause-done g c = refused-not-fine _ c.refuse_threads.result c.refuse_threads.ensures
 
@@ -41,6 +41,12 @@ returns-in-Bench-clause-done g c = refused-not-fine _ c.refuse_threads-in-Bench.
 
 pub returns-in-Bench-clause-wrong : goal.returns-in-Bench-clause-wrong
 returns-in-Bench-clause-wrong g c = refused-not-wrong _ c.refuse_threads-in-Bench.result c.refuse_threads-in-Bench.ensures
+
+pub returns-in-Serve-clause-done : goal.returns-in-Serve-clause-done
+returns-in-Serve-clause-done g c = refused-not-fine _ c.refuse_threads-in-Serve.result c.refuse_threads-in-Serve.ensures
+
+pub returns-in-Serve-clause-wrong : goal.returns-in-Serve-clause-wrong
+returns-in-Serve-clause-wrong g c = refused-not-wrong _ c.refuse_threads-in-Serve.result c.refuse_threads-in-Serve.ensures
 
 pub returns-in-Run-clause-wrong : goal.returns-in-Run-clause-wrong
 returns-in-Run-clause-wrong g c = rw c.in-Run.is (never-wrong c.run_file.result c.run_file.ensures.other)

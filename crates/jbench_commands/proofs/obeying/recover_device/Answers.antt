@@ -2,7 +2,7 @@ use Rattle.file_device.specs.Files.{file_state}
 use Rattle.jbench_commands.proofs.Obeyed.{recovers}
 use Rattle.jbench_commands.proofs.obeying.recover_device.Goals as goal
 
--- as the words tell
+-- as the words ask
 pub returns-clause-done : goal.returns-clause-done
 returns-clause-done g c = λ fine over. record {
   old = c.args.device;

@@ -7,7 +7,7 @@ pub returns-in_default-clause-done : goal.returns-in_default-clause-done
 returns-in_default-clause-done g c =
     IfOk-weaker c.run.result _ _ (λ status run fine. (c.into_text.result, run-alone c.args.words.now.image c.in_default.not-Some (run fine))) c.run.ensures.run
 
--- with one
+-- with an image
 pub returns-in-Ok-clause-done : goal.returns-in-Ok-clause-done
 returns-in-Ok-clause-done g c =
     IfOk-weaker c.run_with_image.result _ _ (λ status run fine. (c.into_text-in-Ok.result, run-with c.args.words.now.image c.in-Some.image c.in-Some.is (run fine))) c.run_with_image.ensures.run

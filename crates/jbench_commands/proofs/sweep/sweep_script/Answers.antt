@@ -2,7 +2,7 @@ use Rattle.std.proofs.Common.{refl, sym}
 use Rattle.std.proofs.lemmas.Bool.{false≢true}
 use Rattle.jbench_commands.proofs.sweep.sweep_script.Goals as goal
 
--- the stops alone
+-- only the stops
 pub returns-then-not-words-clause-swept : goal.returns-then-not-words-clause-swept
 returns-then-not-words-clause-swept g c = record {
   script = c.in_ok-script.script;
@@ -13,7 +13,7 @@ returns-then-not-words-clause-swept g c = record {
   more = λ told. absurd (false≢true (sym (rw told at c.if-not-words.true)));
 }
 
--- and the failing calls
+-- also the failing calls
 pub returns-clause-swept : goal.returns-clause-swept
 returns-clause-swept g c = record {
   script = c.in_ok-script.script;

@@ -3,7 +3,7 @@ use Rattle.recovery.specs.declared.opening.Report.{Report}
 use Rattle.jbench_logs.specs.Done.{IsTakenBefore}
 use Rattle.jbench_logs.proofs.damage.open_watched.Goals as goal
 
--- what was taken of the watched device was taken of the one behind it
+-- what was taken of the watched device was taken of the inner one
 pub returns-in-Ok-clause-opened : goal.returns-in-Ok-clause-opened
 returns-in-Ok-clause-opened g c = λ honest.
     let old = g.D.Device.state c.new.result.device in

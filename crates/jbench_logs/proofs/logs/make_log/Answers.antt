@@ -16,7 +16,7 @@ returns-in_err-format-clause-moments g c =
     each-of-log (IsMakingMoment s.shape m.log_blocks m.uuid m.wide s.disk) (IsMakeMoment s.shape m.log_blocks m.uuid m.wide s.disk) s (g.D.Device.state c.format.new.device)
     (λ disk is. OfLog is) c.format.ensures.moments
 
--- one was, and home is durable
+-- a log was made, and home is durable
 pub returns-in-Ok-clause-moments : goal.returns-in-Ok-clause-moments
 returns-in-Ok-clause-moments g c =
     let m = c.args.measures.now in
@@ -27,7 +27,7 @@ returns-in-Ok-clause-moments g c =
     (each-of-log (IsMakingMoment s.shape m.log_blocks m.uuid m.wide s.disk) P s made (λ disk is. OfLog is) c.format.ensures.moments)
     c.in-Ok.ensures.ok (OfHome made.disk c.in_ok-format.ensures.ok refl)
 
--- or it may not be
+-- a log was made, and home may not be durable
 pub returns-in-Err-clause-moments : goal.returns-in-Err-clause-moments
 returns-in-Err-clause-moments g c =
     let m = c.args.measures.now in

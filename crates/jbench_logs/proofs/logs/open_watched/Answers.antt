@@ -3,7 +3,7 @@ use Rattle.recovery.specs.declared.opening.Report.{Report}
 use Rattle.jbench_logs.specs.Done.{IsOpeningTold}
 use Rattle.jbench_logs.proofs.logs.open_watched.Goals as goal
 
--- what was found on the watched device was found on the one behind it
+-- what was found on the watched device was found on the inner one
 pub returns-in-Ok-clause-tells : goal.returns-in-Ok-clause-tells
 returns-in-Ok-clause-tells g c = λ honest.
     let given : c.new.result.device ≡ c.args.device = ap (λ watched. watched.device) c.new.ensures in

@@ -2,7 +2,7 @@ use Rattle.log_epochs.specs.OpeningRun.{IsMoment}
 use Rattle.jbench_logs.proofs.ReadsBehind.{each-read}
 use Rattle.jbench_logs.proofs.logs.recover.Goals as goal
 
--- behind a refusal the device is read alone
+-- after a refusal the device is only read
 pub returns-clause-moments : goal.returns-clause-moments
 returns-clause-moments g c = λ honest.
     each-read (IsMoment (g.D.Device.state c.args.device).shape (g.D.Device.state c.args.device).disk) (g.D.Device.state c.args.device) _

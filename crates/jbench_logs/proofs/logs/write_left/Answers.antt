@@ -11,7 +11,7 @@ returns-then-is_last g c =
     (sym (line-none c.args.report.clean c.args.is_written c.args.report.ends_at c.args.report.transactions c.args.next (sym c.is_last.ensures ∙ c.if-is_last.true)))
     c.write_none.ensures
 
--- one is
+-- a number is left
 pub returns-else-is_last : goal.returns-else-is_last
 returns-else-is_last g c =
     subst (λ (line : List ℕ). OnOk c.write_opened.result (Appends (g.W.Write.contents c.args.out.now) (g.W.Write.contents c.write_opened.new.out) line))

@@ -4,7 +4,7 @@ use Rattle.block_device.specs.State.{EachMoment}
 use Rattle.jbench_logs.specs.Done.{IsMomentOf}
 use Rattle.jbench_logs.proofs.recovering.recover_as.Goals as goal
 
--- the moments are those of the opening that the words tell
+-- the moments are those of the opening that the words ask for
 pub returns-then-words-clause-moments : goal.returns-then-words-clause-moments
 returns-then-words-clause-moments g c =
     subst (λ (before : Bool). IfOk c.recover_before_damage.result (λ done. g.D.Device.honest done.1 →

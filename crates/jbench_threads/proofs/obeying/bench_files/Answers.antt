@@ -1,7 +1,7 @@
 use Rattle.jbench_commands.proofs.Ending.{some-left}
 use Rattle.jbench_threads.proofs.obeying.bench_files.Goals as goal
 
--- what is left where all was done
+-- the device after success
 pub returns-in_ok-done-in-Ok-device_of-clause-done : goal.returns-in_ok-done-in-Ok-device_of-clause-done
 returns-in_ok-done-in-Ok-device_of-clause-done g c = λ fine.
     let found = some-left _ c.in_ok-done-in-Ok-device_of.done (c.status_of.ensures.fine.0 fine) c.in_ok-done-in-Ok-device_of.ensures in

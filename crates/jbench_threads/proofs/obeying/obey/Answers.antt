@@ -8,10 +8,16 @@ returns-in-Threads-clause-done g c = rw c.in-Threads.is c.threads_file.ensures.d
 pub returns-in-Threads-clause-wrong : goal.returns-in-Threads-clause-wrong
 returns-in-Threads-clause-wrong g c = rw c.in-Threads.is c.threads_file.ensures.wrong
 
--- clients of a bench did
+-- clients of a bench or of a server ran in threads
 pub returns-in-Bench-clause-done : goal.returns-in-Bench-clause-done
 returns-in-Bench-clause-done g c = rw c.in-Bench.is c.bench_files.ensures.done
 
--- it does not end with 2
+pub returns-in-Serve-clause-done : goal.returns-in-Serve-clause-done
+returns-in-Serve-clause-done g c = rw c.in-Serve.is c.serve_files.ensures.done
+
+-- these commands do not end with 2
 pub returns-in-Bench-clause-wrong : goal.returns-in-Bench-clause-wrong
 returns-in-Bench-clause-wrong g c = rw c.in-Bench.is (never-wrong c.bench_files.result c.bench_files.ensures.other)
+
+pub returns-in-Serve-clause-wrong : goal.returns-in-Serve-clause-wrong
+returns-in-Serve-clause-wrong g c = rw c.in-Serve.is (never-wrong c.serve_files.result c.serve_files.ensures.other)

@@ -1,7 +1,7 @@
 use Rattle.jbench_threads.proofs.Alone.{done-alone, wrong-alone}
 use Rattle.jbench_threads.proofs.obeying.obey_alone.Goals as goal
 
--- what a command does that starts no threads
+-- the command starts no threads
 pub returns-clause-done : goal.returns-clause-done
 returns-clause-done g c = done-alone _ _ _ c.args.words.now c.obey.result c.obey.ensures.done
 

@@ -1,7 +1,7 @@
 use Rattle.std.proofs.lemmas.Result.{IfOk-weaker}
 use Rattle.jbench_threads.proofs.obeying.threads_file.Goals as goal
 
--- of the file that was opened
+-- the opened file was run
 pub returns-in-Ok-clause-done : goal.returns-in-Ok-clause-done
 returns-in-Ok-clause-done g c = IfOk-weaker c.threads.result _ _ (λ status served fine. (c.into_text.result, served fine)) c.threads.ensures.done
 

@@ -1,5 +1,6 @@
 use Rattle.std.proofs.Common.{◌≡◌, take}
 use Rattle.script_client.specs.Outcomes.{IsLast}
+use Rattle.script_client.specs.Performed.{HasDone}
 use Rattle.script_client.proofs.InOrder.{PerformsSoFar}
 use Rattle.script_client.proofs.performing.perform_all.Given as goal
 
@@ -7,7 +8,7 @@ use Rattle.script_client.proofs.performing.perform_all.Given as goal
 abbrev pub invariant-loop-operation : goal.invariant-loop-operation
 invariant-loop-operation g l = record {
   operations : l.interpreter.client.operations ≡ l.fn.interpreter.client.operations;
-  performs : PerformsSoFar g.D.Device.state g.D.Device.honest (IsLast l.after) (take l.operation-index l.operations)
+  performs : PerformsSoFar (HasDone g.D.Device.state g.D.Device.honest) (IsLast l.after) (take l.operation-index l.operations)
       (record { client = l.fn.interpreter.client; names = l.fn.interpreter.slots }) (record { client = l.interpreter.client; names = l.interpreter.slots })
       (g.W.Write.contents l.fn.out) (g.W.Write.contents l.out);
 }
