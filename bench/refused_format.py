@@ -29,6 +29,7 @@ from runs import TOP, Difference, compare_all
 SCRIPT = TOP / "examples" / "two_blocks.json"
 DELAYED = ("openat:delay_exit", "openat:delay_enter", "flock:delay_enter", "flock:delay_exit", "unlink,unlinkat:delay_enter")
 BLOCKS = {9: b"\x11", 10: b"\x22"}
+HELD = ("another program has it", "it is locked by process ")
 
 
 def has_strace():
@@ -79,7 +80,7 @@ class Races:
             time.sleep(0.001)
         applied = self.call("apply", self.log, self.home, SCRIPT, "--stay")
         for _ in range(200):
-            if applied.returncode == 0 or "another program has it" not in applied.stderr:
+            if applied.returncode == 0 or not any(reason in applied.stderr for reason in HELD):
                 break
             time.sleep(0.001)
             applied = self.call("apply", self.log, self.home, SCRIPT, "--stay")

@@ -12,6 +12,7 @@ mod damage;
 mod faults;
 mod locks;
 mod log_files;
+mod objects;
 mod paths;
 mod rounds;
 mod sessions;

@@ -1,5 +1,5 @@
 -- What an apply takes from its device, and what it prints about the closed log.
-use Rattle.std.specs.Prelude.{◌≡◌, ◌⊎◌, ℕ, ◌+◌, ◌==◌, nat_lt, if◌then◌else◌, Bool, true, false, List, [], ◌∷◌, ◌++◌, Option, Result, IsErr, IsOk, OnOk, codes}
+use Rattle.std.specs.Prelude.{◌≡◌, ◌⊎◌, ℕ, ◌+◌, ◌==◌, nat_lt, if◌then◌else◌, Bool, true, false, List, [], ◌∷◌, ◌++◌, Option, None, Result, IsErr, IsOk, OnOk, codes}
 use Rattle.std.specs.Fmt.{decimal}
 use Rattle.std.specs.Io.KnownBytes.{Appends, Keeps}
 use Rattle.journal_model.specs.Disk.{reading}
@@ -42,6 +42,11 @@ pub record EndsWithNext (state : DeviceState) (written : Option (List ℕ)) : Ty
   pub has_limit : HasLimit state.shape (reading state.disk) limit
   pub before : Option (List ℕ)
   pub said : Appends before written (closed_line limit)
+
+-- the content of a writer of lines; nothing is known of it if an object replaces each line
+abbrev pub lines_told : (json : Bool) → Option (List ℕ) → Option (List ℕ)
+lines_told true contents = None
+lines_told false contents = contents
 
 -- how a journal is left, and what a refused operation does, by the words
 abbrev pub ending_told : (stay : Bool) → Ending

@@ -15,7 +15,7 @@ use Rattle.jbench_files.specs.declared.regular.RegularFile.{RegularFile}
 use Rattle.jbench_files.specs.declared.text.Text.{Text}
 use Rattle.jbench_views.specs.Looked.{HasDumped, HasLeft}
 use Rattle.jbench_logs.specs.Done.{HasUpgraded, IsFoundOut, IsMade, IsRecovered, IsRecoveredBefore}
-use Rattle.jbench_commands.specs.Applying.{IsDoneTo, after_told, ending_told}
+use Rattle.jbench_commands.specs.Applying.{IsDoneTo, after_told, ending_told, lines_told}
 use Rattle.jbench_commands.specs.Runs.{HasRun, HasTakenEither, runs_told}
 use Rattle.jbench_commands.specs.Sweeps.{HasSwept}
 
@@ -83,7 +83,7 @@ pub record IsAppliedOver (first : FileContents) (reads : TextReads) (words : App
   pub left : FileState
   pub sealed : History
   pub shown : Option ℕ
-  pub done : IsDoneTo (file_state first) (HasAgreed first) old (reads script) (after_told words.keep_going words.make_room) (ending_told words.stay) left sealed shown contents
+  pub done : IsDoneTo (file_state first) (HasAgreed first) old (reads script) (after_told words.keep_going words.make_room) (ending_told words.stay) left sealed shown (lines_told words.json contents)
   pub closed : words.stay ≡ false → HasAgreed first left → IsLeftClosed (file_state first left) sealed
 
 -- What the command did, over log files with this first content, an output with these first contents, and texts whose reads are known so.

@@ -12,9 +12,10 @@ ghost use Rattle.script_client.specs.declared.performing.Ending.TheVariants.{Clo
 ghost use Rattle.script_client.specs.Ended.{IsEnded, IsLeftClosed};
 ghost use Rattle.script_client.specs.Told.{IsLedTo};
 ghost use Rattle.jbench_commands.specs.Unapplied.{IsUnapplied, IsUnappliedBehind};
-ghost use Rattle.jbench_commands.specs.Applying.{AreForDevice, AreOf, EndsWithNext, IsDoneBehind, IsDoneTo, IsOperated, SaysBehind, SaysNext, after_told, closed_line, ending_told};
+ghost use Rattle.jbench_commands.specs.Applying.{AreForDevice, AreOf, EndsWithNext, IsDoneBehind, IsDoneTo, IsOperated, SaysBehind, SaysNext, after_told, closed_line, ending_told, lines_told};
 
 use crate::faults::of_run;
+use crate::objects::Objects;
 use crate::run::read_text;
 use crate::uncommitted::{changes_in, say_open_wait, say_uncommitted};
 use block_device::{Device, read_block};
@@ -97,6 +98,34 @@ pub fn apply<D: Device + Drop, R: Read + Drop, W: Write + Drop, E: Write + Drop>
             refuse(alloc, words.script, &mut device, e, &mut err)?;
             Ok(Err(Unapplied::Unopened(device)))
         }
+    }
+}
+
+/// Applies a script as `apply` does. Prints an object for each line if the words ask for it.
+///
+/// # Errors
+///
+/// The output could not be written.
+pub fn apply_as_told<D: Device + Drop, R: Read + Drop, W: Write + Drop, E: Write + Drop>(
+    alloc: Global,
+    words: &ApplyWords<'_>,
+    device: D,
+    script: R,
+    out: W,
+    err: E,
+) -> io::Result<Result<Performed<D>, Unapplied<D>>>
+    ensures closed { words.now.stay ≡ false → IfOk result (λ done. IfOk done (λ left. D.honest left.device →
+        IsLeftClosed (D.state left.device) left.sealed.items)) }
+    ensures done { IfOk result (λ done. IfOk done (λ left.
+        IsDoneTo D.state D.honest device (R.remaining script) (after_told words.now.keep_going words.now.make_room) (ending_told words.now.stay) left.device left.sealed.items left.acknowledged
+        (lines_told words.now.json (W.contents out)))) }
+    ensures left { IfOk result (λ done. IfErr done (IsUnapplied D.state D.honest device (R.remaining script) (after_told words.now.keep_going words.now.make_room) (ending_told words.now.stay))) }
+{
+    if words.json {
+        let objects = Objects::new(alloc, out)?;
+        apply(alloc, words, device, script, objects, err)
+    } else {
+        apply(alloc, words, device, script, out, err)
     }
 }
 

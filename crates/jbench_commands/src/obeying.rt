@@ -26,8 +26,8 @@ use jbench_views::{cat, dump};
 use jbench_words::fault::{self, Fault, Status, refuse_file};
 use jbench_words::watch::Watch;
 use jbench_words::words::{
-    ApplyWords, CatWords, DumpWords, FormatWords, LogPaths, RecoverWords, RunWords, SweepWords,
-    Words,
+    ApplyWords, CatWords, DumpWords, FormatWords, LogPaths, RecoverWords, RunWords, ShowWords,
+    SweepWords, Words,
 };
 use journal_model::JournalError;
 use std::alloc::Global;
@@ -56,7 +56,7 @@ pub fn obey<C: Contents, W: Write + Drop, E: Write + Drop>(
         Words::Format(words) => format_files(rt, contents, words, out, err),
         Words::Dump(words) => dump_file(rt, contents, words, out, err),
         Words::Cat(words) => cat_files(rt, contents, words, out, err),
-        Words::Show(path) => show_file(rt, contents, path, out, err),
+        Words::Show(words) => show_file(rt, contents, words, out, err),
         Words::Recover(words) => recover_files(rt, contents, words, out, err),
         Words::Upgrade(path) => upgrade_file(rt, contents, path, out, err),
         Words::Apply(words) => apply_files(rt, contents, words, out, err),
@@ -431,7 +431,9 @@ fn apply_opened<C: Contents, W: Write + Drop, E: Write + Drop>(
     let mut err = err;
     match device_of(rt.alloc(), contents, files) {
         Ok(device) => {
-            let done = apply::apply(rt.alloc(), words, device, script.into_text(), out, &mut err)?;
+            let alloc = rt.alloc();
+            let script = script.into_text();
+            let done = apply::apply_as_told(alloc, words, device, script, out, &mut err)?;
             say_failure(apply::device_of(&done), words.paths, &mut err)?;
             Ok(status_of_all(&done))
         }
@@ -529,19 +531,19 @@ fn upgrade_file<C: Contents, W: Write + Drop, E: Write + Drop>(
 fn show_file<C: Contents, W: Write + Drop, E: Write + Drop>(
     rt: &HostRuntime,
     contents: C,
-    path: &str,
+    words: &ShowWords<'_>,
     out: W,
     err: E,
 ) -> io::Result<Status>
     ensures other { IfOk result (λ status. status ≢ Fine → status ≡ Refused) }
 {
     let mut err = err;
-    match open_log(rt.alloc(), contents, rt, path) {
+    match open_log(rt.alloc(), contents, rt, words.log) {
         Ok(mut device) => {
-            let status = show::show(rt.alloc(), path, &mut device, out, &mut err)?;
-            say_failure(&device, lone(path), &mut err)?;
+            let status = show::show(rt.alloc(), words, &mut device, out, &mut err)?;
+            say_failure(&device, lone(words.log), &mut err)?;
             Ok(status)
         }
-        Err(e) => refuse_file(&mut err, path, e),
+        Err(e) => refuse_file(&mut err, words.log, e),
     }
 }

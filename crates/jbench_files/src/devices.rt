@@ -125,7 +125,7 @@ pub fn open_log<C: Contents, R: Files<File = File>>(
     log_in(
         alloc,
         contents,
-        take_shared(open_to_read(rt, path)?)?.into_file(),
+        take_shared(rt, open_to_read(rt, path)?)?.into_file(),
     )
 }
 

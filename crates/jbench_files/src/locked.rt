@@ -1,8 +1,9 @@
 //! Opens files with their lock.
 ghost use Rattle.std.specs.Prelude.{◌≡◌, IfOk};
 
+use crate::holder::held;
 use crate::regular::{Identity, RegularFile};
-use file_device::{ReadLock, WriteLock, lock, lock_shared};
+use file_device::{ReadLock, Unlocked, WriteLock, lock, lock_shared};
 use std::fs::{File, Files};
 use std::io::ErrorKind;
 use std::{fs, io};
@@ -18,8 +19,8 @@ pub struct LockedFile<L> {
 ///
 /// # Errors
 ///
-/// `WouldBlock`: another program has a lock. `NotFound`: another program renamed or removed the file, so the path names another one.
-/// Otherwise the system's answer.
+/// `WouldBlock`: another program has a lock; its process is named if the system tells it. `NotFound`: another program renamed or removed
+/// the file, so the path names another one. Otherwise the system's answer.
 pub(crate) fn take<R: Files<File = File>>(
     rt: &R,
     path: &str,
@@ -27,9 +28,21 @@ pub(crate) fn take<R: Files<File = File>>(
 ) -> io::Result<LockedFile<WriteLock>>
     ensures { IfOk result (λ locked. locked.file ≡ file) }
 {
-    let lock = lock(&file.file)?;
-    require_name(rt, path, &file)?;
-    Ok(LockedFile { file, lock })
+    match lock(&file.file) {
+        Ok(lock) => {
+            require_name(rt, path, &file)?;
+            Ok(LockedFile { file, lock })
+        }
+        Err(e) => Err(unlocked(rt, &file, e)),
+    }
+}
+
+/// Why a file can't be locked.
+fn unlocked<R: Files<File = File>>(rt: &R, file: &RegularFile, e: Unlocked) -> io::Error {
+    match e {
+        Unlocked::Held => held(rt, file.identity),
+        Unlocked::Failed(e) => e,
+    }
 }
 
 /// Fails if the path no longer names this file.
@@ -53,12 +66,17 @@ pub(crate) fn require_name<R: Files<File = File>>(
 ///
 /// # Errors
 ///
-/// `WouldBlock`: another program has the write lock. Otherwise the system's answer.
-pub(crate) fn take_shared(file: RegularFile) -> io::Result<LockedFile<ReadLock>>
+/// `WouldBlock`: another program has the write lock; its process is named if the system tells it. Otherwise the system's answer.
+pub(crate) fn take_shared<R: Files<File = File>>(
+    rt: &R,
+    file: RegularFile,
+) -> io::Result<LockedFile<ReadLock>>
     ensures { IfOk result (λ locked. locked.file ≡ file) }
 {
-    let lock = lock_shared(&file.file)?;
-    Ok(LockedFile { file, lock })
+    match lock_shared(&file.file) {
+        Ok(lock) => Ok(LockedFile { file, lock }),
+        Err(e) => Err(unlocked(rt, &file, e)),
+    }
 }
 
 impl<L: Drop> LockedFile<L> {

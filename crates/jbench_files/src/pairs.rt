@@ -314,7 +314,7 @@ pub fn open_pair_to_read<'a, R: Files<File = File>>(
 
 /// Opens an existing file to read, and takes its read lock.
 fn open_shared<R: Files<File = File>>(rt: &R, path: &str) -> io::Result<LockedFile<ReadLock>> {
-    take_shared(open_to_read(rt, path)?)
+    take_shared(rt, open_to_read(rt, path)?)
 }
 
 /// Opens an existing home area's file to read, which must not be this log's, and takes its read lock.
@@ -325,7 +325,7 @@ fn open_shared_home<R: Files<File = File>>(
 ) -> io::Result<LockedFile<ReadLock>>
     ensures { IfOk result (λ home. AreApart log.now home.file) }
 {
-    take_shared(open_to_read(rt, path)?.other_than(log)?)
+    take_shared(rt, open_to_read(rt, path)?.other_than(log)?)
 }
 
 /// Opens a log's two files to read and write, makes each that is missing, and locks both. The two files and this script are distinct. Their

@@ -24,6 +24,21 @@ impl Identity {
             inode: metadata.ino(),
         }
     }
+
+    /// The major number of its device.
+    pub(crate) fn major(self) -> u64 {
+        (self.device >> 8) & 0xfff | (self.device >> 32) & 0xffff_f000
+    }
+
+    /// The minor number of its device.
+    pub(crate) fn minor(self) -> u64 {
+        self.device & 0xff | (self.device >> 12) & 0xffff_ff00
+    }
+
+    /// Its inode on that device.
+    pub(crate) fn inode(self) -> u64 {
+        self.inode
+    }
 }
 
 /// An open regular file and its identity. A script's file may be a pipe.

@@ -35,14 +35,15 @@ check SCRIPT: says whether a script of run or of threads is good, and why it is 
 threads SCRIPT: runs the clients of a script, each in a thread of its own, over one journal, and judges what came of them.
 format LOG HOME [--block B] [--length M] [--home N] [--uuid DIGITS] [--wide] [--keep-home] [--new]: two files become an empty log of M
 blocks (default: 33) and a home area of N zero blocks (default: 64), of B bytes each (default: 1024), or only the first does.
-dump LOG [--damaged | --copy PLACE]: prints the log in a file, where that is told up to a damaged block; or the bytes of one copy.
-show LOG: prints each field of the superblock in a file, why an opening would refuse it, and what the ring holds.
+dump LOG [--damaged] [--json | --copy PLACE]: prints the log in a file, where that is told up to a damaged block; or the bytes of one
+copy.
+show LOG [--json]: prints each field of the superblock in a file, why an opening would refuse it, and what the ring holds.
 cat LOG HOME BLOCK [--wait SECONDS]: prints a block of the home area as an opening would leave it, and writes nothing.
-recover LOG HOME [--before-damage] [--dry-run] [--wait SECONDS]: opens the log in a file, and brings home what its complete
-transactions copied, where that is told also those of a damaged log; or says what it would do.
+recover LOG HOME [--before-damage] [--dry-run] [--wait SECONDS] [--json]: opens the log in a file, and brings home what its
+complete transactions copied, where that is told also those of a damaged log; or says what it would do.
 upgrade LOG: gives the empty log in a file block numbers of 64 bits.
-apply LOG HOME SCRIPT [--stay] [--keep-going] [--make-room] [--wait SECONDS]: opens the log in a file, and does the operations of a
-script over it and its home area.
+apply LOG HOME SCRIPT [--stay] [--keep-going] [--make-room] [--wait SECONDS] [--json]: opens the log in a file, and does the
+operations of a script over it and its home area.
 bench LOG HOME [--seconds N] [--transactions N] [--copies K] [--threads N] [--csv] [--wait SECONDS]: opens the log in a file, and
 tells how long transactions take.
 serve LOG HOME [--read-only] [--export NAME] [--wait SECONDS]: opens the log in a file, and serves its home area as a block device
@@ -351,6 +352,9 @@ refusal follows on standard error, and the exit status is 1. With --copy PLACE t
 place of the log, in hex, 32 on a line, as an opening would write them home. That block has to be one of a complete transaction: the dump
 has a line 'PLACE copy N block=B' for it.
 
+With --json it prints one object in the place of lines: \"super\", \"blocks\", and \"end\" or \"empty\" have the words of these lines with
+their numbers; \"blocks\" is a list of objects with \"place\", \"kind\", \"transaction\" and the other words of their line.
+
 Exit status: 0 done; 1 refused: the words, the file, or the log, or no copy stands in that block.
 
 Examples:
@@ -373,7 +377,13 @@ Examples:
             name: "copy",
             value: "PLACE",
             is_option: true,
-            help: "Print the bytes of the copy in this block of LOG, in hex; not with --damaged",
+            help: "Print the bytes of the copy in this block of LOG, in hex; not with --damaged or --json",
+        },
+        Word {
+            name: "json",
+            value: "",
+            is_option: true,
+            help: "Print one JSON object",
         },
     ],
 };
@@ -426,15 +436,28 @@ lines say whether an opening takes the superblock, and where a feature keeps it 
 it; of a log whose superblock is taken also how many blocks of the ring are used and free, and the numbers of the oldest and the newest
 transaction that stand there. The bytes of a block are what stands at 0x0c of LOG where that is 1024, 2048 or 4096, else 1024. LOG is not written.
 
+With --json it prints one object in the place of lines: \"log\" has \"blocks\" and \"blocksize\"; \"superblock\" the fields by their names,
+and behind one of features a list of their names; \"failed\" is a list of objects with \"field\", \"refusal\" and \"wanted\";
+\"refusal\" is that of an opening, or null, and \"advice\" a list of lines on it; \"ring\" has the words of its line, or is null. A refusal
+has \"number\" and \"name\".
+
 Exit status: 0 done, whatever the superblock is; 1 refused: the words, the file, or a log of not one block.
 
 Example: jbench show log",
-    words: &[Word {
-        name: "log",
-        value: "LOG",
-        is_option: false,
-        help: "The file of the log",
-    }],
+    words: &[
+        Word {
+            name: "log",
+            value: "LOG",
+            is_option: false,
+            help: "The file of the log",
+        },
+        Word {
+            name: "json",
+            value: "",
+            is_option: true,
+            help: "Print one JSON object",
+        },
+    ],
 };
 
 pub(crate) const RECOVER: Usage = Usage {
@@ -462,6 +485,10 @@ above those in the log: where show says s_start 0, make an empty one by format w
 With --dry-run nothing is written: both files are read, and other programs may read them too. It prints what the same command without
 it would find: 'clean next=N', or 'would recover end=E next=N transactions=C blocks=H', where H is how many blocks of HOME it would
 write; and the second line of --before-damage.
+
+With --json it prints one object in the place of lines: \"outcome\", which is clean, recovered or would recover, and the other words of
+that line with their numbers, of which \"next\" is null for none. Of the second line it has \"first\" and \"last\", the numbers
+A and B, and \"stopped_by\", an object with \"number\", \"name\" and \"place\"; with --dry-run also \"advice\", a list of lines on that.
 
 Exit status: 0 done; 1 refused: the words, a file, or the log.
 
@@ -498,6 +525,12 @@ Examples:
             value: "SECONDS",
             is_option: true,
             help: "Wait so long for a file that another program has, 1 to 86400 [default: not at all]",
+        },
+        Word {
+            name: "json",
+            value: "",
+            is_option: true,
+            help: "Print one JSON object",
         },
     ],
 };
@@ -542,6 +575,12 @@ is refused because a file failed ends it; any other is printed with its refusal,
 
 A commit for which the log has no room is refused, unless --make-room is given: then what is committed goes home first, as by
 'check', and the operation is done after that. Its line says what it came to then, and there is no other for the round.
+
+With --json it prints an object on a line in the place of each line, at once: the first and the last one have \"outcome\", which is
+clean, recovered or closed, and the other words with their numbers, of which \"next\" is null for none. That of an operation has
+\"operation\", its name, the numbers that stand behind it as \"handle\", \"credits\" and \"block\", and either \"answer\", a
+transaction's number, a word, or of read the bytes in hex, or \"refusal\", an object with \"number\" and \"name\". A turn that did
+something to a transaction has that as \"transaction\", too.
 
 Exit status: 0 done; 1 refused: the words, a file, the script, the log, or the end of the work.
 
@@ -590,6 +629,12 @@ Example: blocks 9 and 10 of the home area change together:
             value: "SECONDS",
             is_option: true,
             help: "Wait so long for a file that another program has, 1 to 86400 [default: not at all]",
+        },
+        Word {
+            name: "json",
+            value: "",
+            is_option: true,
+            help: "Print a JSON object for each line",
         },
     ],
 };

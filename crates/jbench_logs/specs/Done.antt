@@ -17,7 +17,7 @@ use Rattle.damaged_logs.specs.BeforeSteps.{HasDoneBefore}
 use Rattle.damaged_logs.specs.Planned.{IsPlannedBefore}
 use Rattle.jbench_logs.specs.declared.damage.Taken.{Taken}
 use Rattle.jbench_logs.specs.declared.plans.Planned.{Planned}
-use Rattle.jbench_logs.specs.Said.{recovered_line}
+use Rattle.jbench_logs.specs.Said.{recovered_text}
 
 -- a log of this many blocks, with this UUID and 64-bit or 32-bit block numbers, was made and is durable; then home was made durable as it
 -- read
@@ -44,13 +44,13 @@ pub record IsOpeningTold (old new : DeviceState) (clean : Bool) (ends_at transac
   pub opening : IsOpening old.shape old.disk new.disk superblock next
   pub tells : Tells old.shape (reading old.disk) clean ends_at transactions
 
--- an opening's line was written. If reads were correct, the opening was so. The line has no number if none is left for the next opening
-pub record SaysOpened (honest : Type 0) (old new : DeviceState) (before written : Option (List ℕ)) : Type 0 where
+-- an opening's line or object was written. If reads were correct, the opening was so. It has no number if none is left for the next opening
+pub record SaysOpened (json : Bool) (honest : Type 0) (old new : DeviceState) (before written : Option (List ℕ)) : Type 0 where
   pub clean : Bool
   pub ends_at : ℕ
   pub transactions : ℕ
   pub next : ℕ
-  pub said : Appends before written (recovered_line clean ends_at transactions next)
+  pub said : Appends before written (recovered_text json clean ends_at transactions next)
   pub told : honest → IsOpeningTold old new clean ends_at transactions next
 
 -- an upgrade was done: the log was empty, and the calls due for its superblock were made

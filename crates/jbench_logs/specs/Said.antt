@@ -1,5 +1,5 @@
 -- What commands print about an opening.
-use Rattle.std.specs.Prelude.{ℕ, nat_lt, if◌then◌else◌, Bool, true, false, List, [], ◌∷◌, ◌++◌, codes}
+use Rattle.std.specs.Prelude.{ℕ, nat_lt, not, if◌then◌else◌, Bool, true, false, List, [], ◌∷◌, ◌++◌, Option, Some, None, codes}
 use Rattle.std.specs.Fmt.{decimal}
 use Rattle.log_model.specs.Dump.{newline}
 use Rattle.log_model.specs.Opening.{greatest_number}
@@ -31,3 +31,29 @@ none_line false ends_at transactions =
 abbrev pub recovered_line : (clean : Bool) → (ends_at transactions next : ℕ) → List ℕ
 recovered_line true ends_at transactions next = left_line true false ends_at transactions next
 recovered_line false ends_at transactions next = left_line false true ends_at transactions next
+
+-- the next number, if one is left
+abbrev pub number_left : (written : Bool) → (next : ℕ) → Option ℕ
+number_left true next = if nat_lt next greatest_number then Some next else None
+number_left false next = Some next
+
+-- its value in JSON
+abbrev pub value_text : Option ℕ → List ℕ
+value_text (Some next) = decimal next
+value_text None = codes "null"
+
+-- the beginning of an opening's object: the members that its line has
+abbrev pub found_members : (found : List ℕ) → (clean : Bool) → (ends_at transactions : ℕ) → (next : Option ℕ) → List ℕ
+found_members found true ends_at transactions next = codes "{\"outcome\":\"clean\",\"next\":" ++ value_text next
+found_members found false ends_at transactions next =
+    codes "{\"outcome\":\"" ++ found ++ codes "\",\"end\":" ++ decimal ends_at ++ codes ",\"next\":" ++ value_text next ++ codes ",\"transactions\":" ++ decimal transactions
+
+-- the object of `recover`
+abbrev pub recovered_object : (clean : Bool) → (ends_at transactions next : ℕ) → List ℕ
+recovered_object clean ends_at transactions next =
+    found_members (codes "recovered") clean ends_at transactions (number_left (not clean) next) ++ codes "}" ++ newline ∷ []
+
+-- what `recover` prints, as an object or as a line
+abbrev pub recovered_text : (json clean : Bool) → (ends_at transactions next : ℕ) → List ℕ
+recovered_text true clean ends_at transactions next = recovered_object clean ends_at transactions next
+recovered_text false clean ends_at transactions next = recovered_line clean ends_at transactions next

@@ -5,11 +5,13 @@ ghost use Rattle.damaged_logs.specs.Before.{BeforeRefused, IsMomentBefore};
 ghost use Rattle.jbench_words.specs.declared.fault.Status.TheVariants.{Fine, Refused};
 ghost use Rattle.jbench_logs.specs.Done.{IsRecoveredBefore, IsRefusedBy, IsTakenBefore};
 
-use crate::logs::{refuse, say_last, write_left};
+use crate::logs::{number_left, refuse, say_last, write_left};
+use crate::objects::{begin_found, write_refusal};
 use crate::watched::Watched;
 use block_device::Device;
 use jbench_words::fault::Status;
 use jbench_words::watch::Watch;
+use jbench_words::words::RecoverWords;
 use journal_model::{JournalError, Tid};
 use recovery::Report;
 use std::alloc::Global;
@@ -40,16 +42,16 @@ pub(crate) fn is_number_written(report: Report, stopped_by: Option<JournalError>
 }
 
 /// Opens a device's log as `recover` does, even if it is damaged or ahead. The complete transactions go home, of a damaged log those before
-/// the damage, and the log is left clean. Prints the report, the transactions taken, and the refusal of a plain opening. `path` names the
-/// log's file. If the log is refused anyway, a line on `err` says why. `watch` learns of each read and write, and of their end before
-/// anything is printed. The device comes back.
+/// the damage, and the log is left clean. Prints the report, the transactions taken, and the refusal of a plain opening, as lines or as an
+/// object. If the log is refused anyway, a line on `err` says why. `watch` learns of each read and write, and of their end before anything
+/// is printed. The device comes back.
 ///
 /// # Errors
 ///
 /// The output could not be written.
 pub fn recover_before_damage<D: Device + Drop, H: Watch + Drop, W: Write, E: Write + Drop>(
     alloc: Global,
-    path: &str,
+    words: &RecoverWords<'_>,
     device: D,
     watch: H,
     out: &mut W,
@@ -63,13 +65,13 @@ pub fn recover_before_damage<D: Device + Drop, H: Watch + Drop, W: Write, E: Wri
     let mut err = err;
     match open_watched(alloc, device, watch) {
         Ok((device, taken)) => {
-            say_taken(&taken, out)?;
+            say_taken(words.json, &taken, out)?;
             say_last(taken.is_written(), taken.next, &mut err)?;
             Ok((Status::Fine, device))
         }
         Err((device, e)) => {
             let mut device = device;
-            let status = refuse(alloc, path, &mut device, e, &mut err)?;
+            let status = refuse(alloc, words.paths.log, &mut device, e, &mut err)?;
             Ok((status, device))
         }
     }
@@ -106,9 +108,44 @@ fn open_watched<D: Device + Drop, H: Watch + Drop>(
     }
 }
 
-fn say_taken<W: Write>(taken: &Taken, out: &mut W) -> io::Result<()> {
-    write_left(taken.report, taken.is_written(), taken.next, out)?;
-    say_stopped(taken.report, taken.stopped_by, out)
+/// Prints what was taken of a log, as lines or as an object.
+fn say_taken<W: Write>(json: bool, taken: &Taken, out: &mut W) -> io::Result<()> {
+    let (report, is_written) = (taken.report, taken.is_written());
+    if json {
+        begin_found(
+            out,
+            "recovered",
+            report,
+            number_left(is_written, taken.next),
+        )?;
+        write_stopped(report, taken.stopped_by, out)?;
+        return writeln!(out, "}}");
+    }
+    write_left(report, is_written, taken.next, out)?;
+    say_stopped(report, taken.stopped_by, out)
+}
+
+/// Writes the members that say the same as the line of `say_stopped`.
+pub(crate) fn write_stopped<W: Write>(
+    report: Report,
+    stopped_by: Option<JournalError>,
+    out: &mut W,
+) -> io::Result<()> {
+    let Some(e) = stopped_by else {
+        return Ok(());
+    };
+    if report.transactions > 0 {
+        let (first, last) = numbers_of(report);
+        write!(out, ",\"first\":{first},\"last\":{last}")?;
+    }
+    write!(out, ",\"stopped_by\":")?;
+    write_refusal(out, e)
+}
+
+/// The numbers of the first and the last transaction taken, if there are any.
+fn numbers_of(report: Report) -> (u64, u64) {
+    let first = report.ends_at.saturating_sub(report.transactions);
+    (first, report.ends_at.saturating_sub(1))
 }
 
 /// Prints which transactions are taken of a log, and the refusal of a plain opening, if any.
@@ -123,8 +160,7 @@ pub(crate) fn say_stopped<W: Write>(
     if report.transactions == 0 {
         write!(out, "  no transactions")?;
     } else {
-        let first = report.ends_at.saturating_sub(report.transactions);
-        let last = report.ends_at.saturating_sub(1);
+        let (first, last) = numbers_of(report);
         write!(out, "  transactions {first} to {last}")?;
     }
     writeln!(out, ", stopped by refusal {} {e}", e.number())

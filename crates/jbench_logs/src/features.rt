@@ -17,7 +17,7 @@ pub(crate) const WIDE_NUMBERS: u32 = 0x2;
 
 /// Compatible features.
 /// Source: journal.rst, "Super Block".
-pub(crate) const COMPATIBLE: [Feature; 1] = [Feature {
+pub(crate) const COMPATIBLE: &[Feature] = &[Feature {
     bit: 0x1,
     name: "checksum",
     way_out: "mount its file system once without journal_checksum",
@@ -25,7 +25,7 @@ pub(crate) const COMPATIBLE: [Feature; 1] = [Feature {
 
 /// Incompatible features.
 /// Source: journal.rst, "Super Block".
-pub(crate) const INCOMPATIBLE: [Feature; 6] = [
+pub(crate) const INCOMPATIBLE: &[Feature] = &[
     Feature {
         bit: REVOKE,
         name: "revoke",
@@ -59,7 +59,7 @@ pub(crate) const INCOMPATIBLE: [Feature; 6] = [
 ];
 
 /// Read-only compatible features have no names.
-pub(crate) const READ_ONLY_COMPATIBLE: [Feature; 0] = [];
+pub(crate) const READ_ONLY_COMPATIBLE: &[Feature] = &[];
 
 /// Prints a field of features: its number and the name of each set bit.
 pub(crate) fn write_features(
@@ -80,6 +80,19 @@ pub(crate) fn write_features(
         write!(out, " and others, {others:#x}")?;
     }
     writeln!(out)
+}
+
+/// Prints the names of the set features, as a JSON list.
+pub(crate) fn write_names(out: &mut impl Write, bits: u32, features: &[Feature]) -> io::Result<()> {
+    let mut comma = "";
+    write!(out, "[")?;
+    for feature in features {
+        if bits & feature.bit != 0 {
+            write!(out, "{comma}\"{}\"", feature.name)?;
+            comma = ",";
+        }
+    }
+    write!(out, "]")
 }
 
 /// Prints how an owner removes each set feature that is not accepted, a line each.

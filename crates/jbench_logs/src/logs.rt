@@ -11,13 +11,15 @@ ghost use Rattle.log_epochs.specs.UpgradeRun.{IsUpgradeMoment};
 ghost use Rattle.recovery.specs.Opening.{OpeningRefused};
 ghost use Rattle.jbench_words.specs.declared.fault.Status.TheVariants.{Fine, Refused};
 ghost use Rattle.jbench_logs.specs.Done.{HasUpgraded, IsMade, IsMakeMoment, IsOpeningTold, IsRecovered, IsRefusedBy, IsUpgradeLeft, SaysOpened};
-ghost use Rattle.jbench_logs.specs.Said.{left_line, none_line, opened_line, recovered_line};
+ghost use Rattle.jbench_logs.specs.Said.{left_line, none_line, number_left, opened_line, recovered_line, recovered_object, recovered_text};
 
+use crate::objects::begin_found;
 use crate::reasons::say_why;
 use crate::watched::Watched;
 use block_device::Device;
 use jbench_words::fault::{self, Fault, Status};
 use jbench_words::watch::Watch;
+use jbench_words::words::RecoverWords;
 use journal_model::layout::GREATEST_NUMBER;
 use journal_model::{Area, JournalError, Tid};
 use journal_script::Measures;
@@ -109,7 +111,7 @@ fn dump_device<D: Device, W: Write + Drop>(
     Ok(())
 }
 
-/// Opens a device's log: its complete transactions go home, it is left clean, and the report is printed. `path` names its file. Lines on
+/// Opens a device's log: its complete transactions go home, it is left clean, and the report is printed, as a line or as an object. Lines on
 /// `err` say why it is refused, also for a home area that is too short. `watch` learns of each read and write, and of their end before
 /// anything is printed. The device comes back.
 ///
@@ -118,14 +120,14 @@ fn dump_device<D: Device, W: Write + Drop>(
 /// The output could not be written.
 pub fn recover<D: Device + Drop, H: Watch + Drop, W: Write, E: Write + Drop>(
     alloc: Global,
-    path: &str,
+    words: &RecoverWords<'_>,
     device: D,
     watch: H,
     out: &mut W,
     err: E,
 ) -> io::Result<(Status, D)>
     ensures recovered { IfOk result (λ done. done.0 ≡ Fine → D.honest done.1 → IsRecovered (D.state device) (D.state done.1)) }
-    ensures says { IfOk result (λ done. done.0 ≡ Fine → SaysOpened (D.honest done.1) (D.state device) (D.state done.1) (W.contents out.old) (W.contents out.new)) }
+    ensures says { IfOk result (λ done. done.0 ≡ Fine → SaysOpened words.now.json (D.honest done.1) (D.state device) (D.state done.1) (W.contents out.old) (W.contents out.new)) }
     ensures refused { IfOk result (λ done. done.0 ≢ Fine → (done.0 ≡ Refused) × IsRefusedBy OpeningRefused D.state D.honest (D.state device) done.1) }
     // Whatever the answer: each moment is one of an opening.
     ensures moments { IfOk result (λ done. D.honest done.1 → EachMoment (IsMoment (D.state device).shape (D.state device).disk) (D.state device) (D.state done.1)) }
@@ -133,13 +135,13 @@ pub fn recover<D: Device + Drop, H: Watch + Drop, W: Write, E: Write + Drop>(
     let mut err = err;
     match open_watched(alloc, device, watch) {
         Ok((device, report, next)) => {
-            write_recovered(report, next, out)?;
+            say_recovered(words.json, report, next, out)?;
             say_last(!report.clean, next, &mut err)?;
             Ok((Status::Fine, device))
         }
         Err((device, e)) => {
             let mut device = device;
-            let status = refuse(alloc, path, &mut device, e, &mut err)?;
+            let status = refuse(alloc, words.paths.log, &mut device, e, &mut err)?;
             Ok((status, device))
         }
     }
@@ -261,6 +263,25 @@ pub fn say_opened<W: Write>(report: Report, next: Tid, out: &mut W) -> Result<()
     Ok(())
 }
 
+/// Writes the report of `recover`, whose log stays for a later opening, as a line or as an object.
+fn say_recovered<W: Write>(json: bool, report: Report, next: Tid, out: &mut W) -> io::Result<()>
+    ensures { OnOk result (Appends (W.contents out.old) (W.contents out.new) (recovered_text json report.clean report.ends_at report.transactions next)) }
+{
+    if json {
+        write_object(report, next, out)
+    } else {
+        write_recovered(report, next, out)
+    }
+}
+
+/// Writes the object of `recover`, and a newline.
+fn write_object<W: Write>(report: Report, next: Tid, out: &mut W) -> io::Result<()>
+    ensures { OnOk result (Appends (W.contents out.old) (W.contents out.new) (recovered_object report.clean report.ends_at report.transactions next)) }
+{
+    begin_found(out, "recovered", report, number_left(!report.clean, next))?;
+    writeln!(out, "}}")
+}
+
 /// Writes the line of `recover`, whose log stays for a later opening.
 fn write_recovered<W: Write>(report: Report, next: Tid, out: &mut W) -> io::Result<()>
     ensures { OnOk result (Appends (W.contents out.old) (W.contents out.new) (recovered_line report.clean report.ends_at report.transactions next)) }
@@ -308,6 +329,17 @@ pub(crate) fn is_last(is_written: bool, next: Tid) -> bool
     ensures { result ≡ (is_written && not (nat_lt next greatest_number)) }
 {
     is_written && next.0 >= GREATEST_NUMBER
+}
+
+/// The next transaction's number, if the next opening finds one above it.
+pub(crate) fn number_left(is_written: bool, next: Tid) -> Option<Tid>
+    ensures { result ≡ number_left is_written next }
+{
+    if is_last(is_written, next) {
+        None
+    } else {
+        Some(next)
+    }
 }
 
 /// Says what to do if the next opening finds no number above this one.

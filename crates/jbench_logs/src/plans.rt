@@ -5,8 +5,9 @@ ghost use Rattle.block_device.specs.State.{Stays};
 ghost use Rattle.jbench_words.specs.declared.fault.Status.TheVariants.{Fine, Refused};
 ghost use Rattle.jbench_logs.specs.Done.{IsFoundOut, IsPlanOf, IsRefusalOf, IsRefusedBy};
 
-use crate::damage::{is_number_written, say_stopped};
-use crate::logs::{is_last, refuse, say_last};
+use crate::damage::{is_number_written, say_stopped, write_stopped};
+use crate::logs::{is_last, number_left, refuse, say_last};
+use crate::objects::{begin_found, write_lines};
 use crate::reasons::say_why;
 use crate::watched::Watched;
 use block_device::Device;
@@ -60,7 +61,7 @@ pub fn plan<D: Device + Drop, H: Watch + Drop, W: Write, E: Write + Drop>(
     let mut device = device;
     match planned {
         Ok(planned) => {
-            say_plan(alloc, &mut device, &planned, out)?;
+            say_plan(alloc, words.json, &mut device, &planned, out)?;
             say_last(planned.writes_number(), planned.plan.next, &mut err)?;
             Ok((Status::Fine, device))
         }
@@ -113,17 +114,43 @@ fn plan_of<D: Device>(
 /// Prints what an opening would do, and whether a home area that is too short would stop it.
 fn say_plan<D: Device, W: Write>(
     alloc: Global,
+    json: bool,
     device: &mut D,
     planned: &Planned,
     out: &mut W,
 ) -> io::Result<()>
     ensures device { OnlyReads D.state D.honest device.old device.new }
 {
-    say_planned(planned, out)?;
+    let mut why = Vec::new(alloc);
     if let Some(e) = planned.stopped_by {
-        say_why(alloc, device, e, out)?;
+        say_why(alloc, device, e, &mut why)?;
     }
-    Ok(())
+    if json {
+        write_planned(planned, &why, out)
+    } else {
+        say_planned(planned, out)?;
+        out.write_all(&why)
+    }
+}
+
+/// Writes a plan as an object. `why` has the lines on what stops an opening, if anything.
+fn write_planned(planned: &Planned, why: &[u8], out: &mut impl Write) -> io::Result<()> {
+    let Plan {
+        report,
+        blocks,
+        next,
+    } = planned.plan;
+    let next = number_left(planned.writes_number(), next);
+    begin_found(out, "would recover", report, next)?;
+    if !report.clean {
+        write!(out, ",\"blocks\":{blocks}")?;
+    }
+    write_stopped(report, planned.stopped_by, out)?;
+    if planned.stopped_by.is_some() {
+        write!(out, ",\"advice\":")?;
+        write_lines(out, why)?;
+    }
+    writeln!(out, "}}")
 }
 
 fn say_planned(planned: &Planned, out: &mut impl Write) -> io::Result<()> {

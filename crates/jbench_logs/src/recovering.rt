@@ -31,7 +31,7 @@ pub fn recover<D: Device + Drop, H: Watch + Drop, W: Write, E: Write + Drop>(
     ensures recovered { words.now.dry_run ≡ false → words.now.before_damage ≡ false →
         IfOk result (λ done. done.0 ≡ Fine → D.honest done.1 → IsRecovered (D.state device) (D.state done.1)) }
     ensures says { words.now.dry_run ≡ false → words.now.before_damage ≡ false →
-        IfOk result (λ done. done.0 ≡ Fine → SaysOpened (D.honest done.1) (D.state device) (D.state done.1) (W.contents out.old) (W.contents out.new)) }
+        IfOk result (λ done. done.0 ≡ Fine → SaysOpened words.now.json (D.honest done.1) (D.state device) (D.state done.1) (W.contents out.old) (W.contents out.new)) }
     ensures before { words.now.dry_run ≡ false → words.now.before_damage ≡ true →
         IfOk result (λ done. done.0 ≡ Fine → D.honest done.1 → IsRecoveredBefore (D.state device) (D.state done.1)) }
     ensures moments { words.now.dry_run ≡ false → IfOk result (λ done. D.honest done.1 →
@@ -59,17 +59,16 @@ fn recover_as<D: Device + Drop, H: Watch + Drop, W: Write, E: Write + Drop>(
     ensures recovered { words.now.before_damage ≡ false →
         IfOk result (λ done. done.0 ≡ Fine → D.honest done.1 → IsRecovered (D.state device) (D.state done.1)) }
     ensures says { words.now.before_damage ≡ false →
-        IfOk result (λ done. done.0 ≡ Fine → SaysOpened (D.honest done.1) (D.state device) (D.state done.1) (W.contents out.old) (W.contents out.new)) }
+        IfOk result (λ done. done.0 ≡ Fine → SaysOpened words.now.json (D.honest done.1) (D.state device) (D.state done.1) (W.contents out.old) (W.contents out.new)) }
     ensures before { words.now.before_damage ≡ true →
         IfOk result (λ done. done.0 ≡ Fine → D.honest done.1 → IsRecoveredBefore (D.state device) (D.state done.1)) }
     ensures moments { IfOk result (λ done. D.honest done.1 →
         EachMoment (IsMomentOf words.now.before_damage (D.state device).shape (D.state device).disk) (D.state device) (D.state done.1)) }
     ensures refused { IfOk result (λ done. done.0 ≢ Fine → (done.0 ≡ Refused) × IsRefusedBy (IsRefusalOf words.now.before_damage) D.state D.honest (D.state device) done.1) }
 {
-    let path = words.paths.log;
     if words.before_damage {
-        recover_before_damage(alloc, path, device, watch, out, err)
+        recover_before_damage(alloc, words, device, watch, out, err)
     } else {
-        logs::recover(alloc, path, device, watch, out, err)
+        logs::recover(alloc, words, device, watch, out, err)
     }
 }

@@ -1,29 +1,23 @@
 //! The command `show`: each superblock field by name with the test that it fails, then whether an opening accepts the superblock, and an
 //! owner's ways out.
-ghost use Rattle.std.specs.Prelude.{◌≡◌, ◌≢◌, ◌+◌, ◌≤◌, length, IfOk};
+ghost use Rattle.std.specs.Prelude.{◌≡◌, ◌≢◌, ◌≤◌, length, IfOk};
 ghost use Rattle.block_device.specs.State.{Stays};
 ghost use Rattle.jbench_words.specs.declared.fault.Status.TheVariants.{Fine, Refused};
 
-use crate::features::{
-    COMPATIBLE, INCOMPATIBLE, READ_ONLY_COMPATIBLE, REVOKE, WIDE_NUMBERS, write_features,
-};
+use crate::features::{write_features, write_names};
+use crate::fields::{Failed, Field, Value, fields_of};
 use crate::logs::refuse_fault;
+use crate::objects::{write_lines, write_refusal};
 use crate::reasons::SUPER_BYTES;
-use crate::ways_out::{Standing, standing_of, tell};
+use crate::ways_out::{Standing, refusal_of, standing_of, tell, tell_ways_out};
 use block_device::{Device, read_block};
-use byteorder::{BigEndian, ByteOrder};
 use jbench_words::fault::{Fault, Status};
-use journal_model::layout::{GREATEST_LENGTH, LEAST_LENGTH, MAGIC, SUPER_TYPE};
+use jbench_words::words::ShowWords;
 use journal_model::{Area, Block, JournalError};
-use journal_script::is_block_size;
-use log_format::Super;
 use log_views::{RingUse, ring_use};
 use std::alloc::Global;
 use std::io::Write;
 use std::{fmt, io};
-
-/// The fewest blocks of a ring.
-const LEAST_RING: u32 = 16;
 
 /// Bytes that print as hex.
 #[derive(Clone, Copy)]
@@ -38,15 +32,15 @@ impl fmt::Display for Hex<'_> {
     }
 }
 
-/// Prints the superblock of a device's log, whether an opening accepts it, and, if so, the use of the ring. `path` names the log's file.
-/// Lines on `err` say that the log has no whole block, or cannot be read.
+/// Prints the superblock of a device's log, whether an opening accepts it, and, if so, the use of the ring. Lines on `err` say that the log
+/// has no whole block, or cannot be read.
 ///
 /// # Errors
 ///
 /// The output could not be written.
 pub fn show<D: Device, W: Write + Drop, E: Write + Drop>(
     alloc: Global,
-    path: &str,
+    words: &ShowWords<'_>,
     device: &mut D,
     out: W,
     err: E,
@@ -55,14 +49,19 @@ pub fn show<D: Device, W: Write + Drop, E: Write + Drop>(
     ensures other { IfOk result (λ status. status ≢ Fine → status ≡ Refused) }
 {
     let (mut out, mut err) = (out, err);
-    match show_device(alloc, device, &mut out) {
+    match show_device(alloc, words.json, device, &mut out) {
         Ok(()) => Ok(Status::Fine),
-        Err(fault) => refuse_fault(alloc, path, device, fault, &mut err),
+        Err(fault) => refuse_fault(alloc, words.log, device, fault, &mut err),
     }
 }
 
-/// Prints the superblock of a device's log, and the use of its ring.
-fn show_device<D: Device, W: Write>(alloc: Global, device: &mut D, out: &mut W) -> Result<(), Fault>
+/// Prints the superblock of a device's log, and the use of its ring, as lines or as one object.
+fn show_device<D: Device, W: Write>(
+    alloc: Global,
+    json: bool,
+    device: &mut D,
+    out: &mut W,
+) -> Result<(), Fault>
     ensures { Stays (D.state device.old) (D.state device.new) }
 {
     let blocks = device.blocks(Area::Log);
@@ -72,21 +71,61 @@ fn show_device<D: Device, W: Write>(alloc: Global, device: &mut D, out: &mut W) 
         return Err(Fault::Refused(JournalError::BadLength));
     }
     let standing = standing_of(alloc, device, bytes)?;
-    show_superblock(bytes, blocks, standing, out)?;
-    show_ring(alloc, device, out)
+    let shown = Shown::of(alloc, bytes, blocks, standing)?;
+    if json {
+        let ring = ring_of(alloc, device)?;
+        write_object(&shown, ring, out)?;
+        return Ok(());
+    }
+    show_lines(&shown, out)?;
+    if let Some(ring) = ring_of(alloc, device)? {
+        say_ring(ring, out)?;
+    }
+    Ok(())
 }
 
-/// Prints the use of a log's ring, if its superblock is accepted.
-fn show_ring<D: Device, W: Write>(alloc: Global, device: &mut D, out: &mut W) -> Result<(), Fault>
+/// What `show` prints of a superblock.
+#[derive(Drop)]
+struct Shown<'a> {
+    /// The log's blocks.
+    blocks: u64,
+    /// The bytes of a block.
+    block_size: usize,
+    fields: Vec<Field<'a>>,
+    /// Why an opening refuses the log, as far as the superblock shows it.
+    refusal: Option<JournalError>,
+    /// Lines that say what the owner can do then.
+    ways_out: Vec<u8>,
+}
+
+impl<'a> Shown<'a> {
+    /// What `show` prints of these superblock bytes. `standing` is in the superblock's place; the log has `blocks` blocks.
+    fn of(alloc: Global, bytes: &'a [u8], blocks: u64, standing: Standing) -> io::Result<Shown<'a>>
+        requires { 1024 ≤ length bytes.now }
+    {
+        let refusal = refusal_of(bytes, blocks);
+        let mut ways_out = Vec::new(alloc);
+        if let Some(e) = refusal {
+            tell_ways_out(bytes, blocks, standing, e, &mut ways_out)?;
+        }
+        Ok(Shown {
+            blocks,
+            block_size: bytes.len(),
+            fields: fields_of(alloc, bytes, blocks)?,
+            refusal,
+            ways_out,
+        })
+    }
+}
+
+/// The use of a log's ring, if its superblock is accepted.
+fn ring_of<D: Device>(alloc: Global, device: &mut D) -> Result<Option<RingUse>, Fault>
     ensures { Stays (D.state device.old) (D.state device.new) }
 {
     match ring_use(alloc, device) {
-        Ok(ring) => {
-            say_ring(ring, out)?;
-            Ok(())
-        }
+        Ok(ring) => Ok(Some(ring)),
         Err(e) if e == JournalError::Device || e == JournalError::Memory => Err(Fault::Refused(e)),
-        Err(_) => Ok(()),
+        Err(_) => Ok(None),
     }
 }
 
@@ -117,6 +156,29 @@ fn say_ring(ring: RingUse, out: &mut impl Write) -> io::Result<()> {
     }
 }
 
+/// Writes the same as an object.
+fn write_ring(ring: RingUse, out: &mut impl Write) -> io::Result<()> {
+    let RingUse {
+        blocks,
+        used,
+        first,
+        end,
+    } = ring;
+    let (free, transactions) = (blocks.saturating_sub(used), end.transactions);
+    write!(
+        out,
+        "{{\"blocks\":{blocks},\"used\":{used},\"free\":{free},\"transactions\":{transactions}"
+    )?;
+    if transactions > 0 {
+        let newest = first.saturating_add(transactions).saturating_sub(1);
+        write!(out, ",\"oldest\":{first},\"newest\":{newest}")?;
+    }
+    if let Some(place) = end.damaged {
+        write!(out, ",\"damaged\":{place}")?;
+    }
+    write!(out, "}}")
+}
+
 /// Reads block 0 of the log.
 fn read_first<D: Device>(alloc: Global, device: &mut D) -> Result<Block, JournalError>
     ensures { Stays (D.state device.old) (D.state device.new) }
@@ -127,193 +189,94 @@ fn read_first<D: Device>(alloc: Global, device: &mut D) -> Result<Block, Journal
     read_block(alloc, device, Area::Log, 0)
 }
 
-/// Prints the superblock in a block of a log with `blocks` blocks, and what to do if `standing` is in its place.
-fn show_superblock(
-    bytes: &[u8],
-    blocks: u64,
-    standing: Standing,
-    out: &mut impl Write,
-) -> io::Result<()>
-    requires { 1024 ≤ length bytes.now }
-{
-    writeln!(out, "log blocks={blocks} blocksize={}", bytes.len())?;
-    show_header(bytes, out)?;
-    show_fields(&Super::fields(bytes), bytes.len(), blocks, out)?;
-    show_rest(bytes, out)?;
-    tell(bytes, blocks, standing, out)
+/// Prints a superblock as lines.
+fn show_lines(shown: &Shown<'_>, out: &mut impl Write) -> io::Result<()> {
+    writeln!(
+        out,
+        "log blocks={} blocksize={}",
+        shown.blocks, shown.block_size
+    )?;
+    for field in &shown.fields {
+        show_field(field, out)?;
+    }
+    tell(shown.refusal, out)?;
+    out.write_all(&shown.ways_out)
 }
 
-/// Prints the fields that an opening reads, of a log with `blocks` blocks of `block_size` bytes.
-fn show_fields(
-    fields: &Super,
-    block_size: usize,
-    blocks: u64,
-    out: &mut impl Write,
-) -> io::Result<()> {
-    show_lengths(fields, block_size, blocks, out)?;
-    show_tail(fields, out)?;
-    show_features(fields, out)?;
-    show_users(fields, out)
-}
-
-/// The number at a place of a superblock.
-fn number(bytes: &[u8], at: usize) -> u32
-    requires { at + 4 ≤ length bytes.now }
-{
-    BigEndian::read_u32(&bytes[at..])
-}
-
-/// Prints a number field.
-fn show_number(out: &mut impl Write, name: &str, number: u32) -> io::Result<()> {
-    writeln!(out, "{name} {number}")
-}
-
-/// Prints a field of bytes.
-fn show_bytes(out: &mut impl Write, name: &str, bytes: &[u8]) -> io::Result<()> {
-    writeln!(out, "{name} {}", Hex(bytes))
-}
-
-/// Below a field that fails its test, prints the refusal and what is wanted.
-fn say_test(out: &mut impl Write, passes: bool, e: JournalError, wanted: &str) -> io::Result<()> {
-    if passes {
-        Ok(())
-    } else {
-        writeln!(out, "  refusal {} {e}: wanted is {wanted}", e.number())
+/// Prints a field. Below one that fails its test, prints the refusal and what is wanted.
+fn show_field(field: &Field<'_>, out: &mut impl Write) -> io::Result<()> {
+    let name = field.name;
+    match field.value {
+        Value::Number(number) => writeln!(out, "{name} {number}")?,
+        Value::Bytes(bytes) => writeln!(out, "{name} {}", Hex(bytes))?,
+        Value::Features(bits, features) => write_features(out, name, bits, features)?,
+    }
+    match field.failed {
+        Some(Failed { refusal, wanted }) => {
+            writeln!(
+                out,
+                "  refusal {} {refusal}: wanted is {wanted}",
+                refusal.number()
+            )
+        }
+        None => Ok(()),
     }
 }
 
-/// Prints the header's fields.
-fn show_header(bytes: &[u8], out: &mut impl Write) -> io::Result<()>
-    requires { 1024 ≤ length bytes.now }
-{
-    show_bytes(out, "h_magic", &bytes[..4])?;
-    say_test(
+/// Prints a superblock and the use of the ring as an object.
+fn write_object(shown: &Shown<'_>, ring: Option<RingUse>, out: &mut impl Write) -> io::Result<()> {
+    write!(
         out,
-        bytes.starts_with(&MAGIC),
-        JournalError::BadMagic,
-        "c03b3998",
+        "{{\"log\":{{\"blocks\":{},\"blocksize\":{}}},\"superblock\":{{",
+        shown.blocks, shown.block_size
     )?;
-    let block_type = number(bytes, 4);
-    show_number(out, "h_blocktype", block_type)?;
-    say_test(
-        out,
-        block_type == SUPER_TYPE,
-        JournalError::BadType,
-        "4, a superblock of version 2",
-    )?;
-    show_number(out, "h_sequence", number(bytes, 8))
+    write_fields(&shown.fields, out)?;
+    write!(out, "}},\"failed\":[")?;
+    write_failed(&shown.fields, out)?;
+    write!(out, "],\"refusal\":")?;
+    match shown.refusal {
+        Some(e) => write_refusal(out, e)?,
+        None => write!(out, "null")?,
+    }
+    write!(out, ",\"advice\":")?;
+    write_lines(out, &shown.ways_out)?;
+    write!(out, ",\"ring\":")?;
+    match ring {
+        Some(ring) => write_ring(ring, out)?,
+        None => write!(out, "null")?,
+    }
+    writeln!(out, "}}")
 }
 
-/// Prints the fields of lengths and places, of a log with `blocks` blocks of `block_size` bytes.
-fn show_lengths(
-    fields: &Super,
-    block_size: usize,
-    blocks: u64,
-    out: &mut impl Write,
-) -> io::Result<()> {
-    show_number(out, "s_blocksize", fields.s_blocksize)?;
-    let size = u64::from(fields.s_blocksize);
-    let passes = is_block_size(size) && size == block_size as u64;
-    say_test(
-        out,
-        passes,
-        JournalError::BadBlockSize,
-        "1024, 2048 or 4096",
-    )?;
-    let length = fields.s_maxlen;
-    show_number(out, "s_maxlen", length)?;
-    let passes = LEAST_LENGTH <= length && length <= GREATEST_LENGTH && u64::from(length) <= blocks;
-    say_test(
-        out,
-        passes,
-        JournalError::BadLength,
-        "17 to 1048576, and no more than the log has blocks",
-    )?;
-    let first = fields.s_first;
-    show_number(out, "s_first", first)?;
-    let passes = first > 0 && length.saturating_sub(first) >= LEAST_RING;
-    say_test(
-        out,
-        passes,
-        JournalError::BadFirst,
-        "1 or more, and 16 below s_maxlen or less",
-    )
+/// Writes fields as members. The names of features follow their number.
+fn write_fields(fields: &[Field<'_>], out: &mut impl Write) -> io::Result<()> {
+    let mut comma = "";
+    for field in fields {
+        let name = field.name;
+        write!(out, "{comma}\"{name}\":")?;
+        match field.value {
+            Value::Number(number) => write!(out, "{number}")?,
+            Value::Bytes(bytes) => write!(out, "\"{}\"", Hex(bytes))?,
+            Value::Features(bits, features) => {
+                write!(out, "{bits},\"{name}_names\":")?;
+                write_names(out, bits, features)?;
+            }
+        }
+        comma = ",";
+    }
+    Ok(())
 }
 
-/// Prints the fields of the tail and of an error.
-fn show_tail(fields: &Super, out: &mut impl Write) -> io::Result<()> {
-    show_number(out, "s_sequence", fields.s_sequence)?;
-    let start = fields.s_start;
-    show_number(out, "s_start", start)?;
-    let passes = start == 0 || (fields.s_first <= start && start < fields.s_maxlen);
-    say_test(
-        out,
-        passes,
-        JournalError::BadStart,
-        "0, of a clean log, or a place from s_first on and below s_maxlen",
-    )?;
-    show_number(out, "s_errno", fields.s_errno)?;
-    say_test(
-        out,
-        fields.s_errno == 0,
-        JournalError::ErrnoSet,
-        "0, no error that its file system noted",
-    )
-}
-
-/// Prints the fields of features.
-fn show_features(fields: &Super, out: &mut impl Write) -> io::Result<()> {
-    let compatible = fields.s_feature_compat;
-    write_features(out, "s_feature_compat", compatible, &COMPATIBLE)?;
-    say_test(out, compatible == 0, JournalError::BadFeature, "0")?;
-    show_incompatible(fields.s_feature_incompat, out)?;
-    let read_only = fields.s_feature_ro_compat;
-    write_features(out, "s_feature_ro_compat", read_only, &READ_ONLY_COMPATIBLE)?;
-    say_test(out, read_only == 0, JournalError::BadFeature, "0")
-}
-
-/// Prints the field of incompatible features with these bits.
-fn show_incompatible(bits: u32, out: &mut impl Write) -> io::Result<()> {
-    write_features(out, "s_feature_incompat", bits, &INCOMPATIBLE)?;
-    say_test(
-        out,
-        bits == REVOKE || bits == REVOKE | WIDE_NUMBERS,
-        JournalError::BadFeature,
-        "0x1, revoke, or 0x3, with 64bit",
-    )
-}
-
-/// Prints the UUID and the count of users.
-fn show_users(fields: &Super, out: &mut impl Write) -> io::Result<()> {
-    show_bytes(out, "s_uuid", &fields.s_uuid)?;
-    show_number(out, "s_nr_users", fields.s_nr_users)?;
-    say_test(
-        out,
-        fields.s_nr_users == 1,
-        JournalError::BadFeature,
-        "1, a log of one file system",
-    )
-}
-
-/// Prints the fields that the journal never reads.
-/// Source: journal.rst, "Super Block".
-fn show_rest(bytes: &[u8], out: &mut impl Write) -> io::Result<()>
-    requires { 1024 ≤ length bytes.now }
-{
-    show_number(out, "s_dynsuper", number(bytes, 0x44))?;
-    show_number(out, "s_max_transaction", number(bytes, 0x48))?;
-    show_number(out, "s_max_trans_data", number(bytes, 0x4c))?;
-    show_checksums(bytes, out)
-}
-
-/// Prints the fields of checksums, fast commits and users.
-/// Source: journal.rst, "Super Block".
-fn show_checksums(bytes: &[u8], out: &mut impl Write) -> io::Result<()>
-    requires { 1024 ≤ length bytes.now }
-{
-    show_number(out, "s_checksum_type", u32::from(bytes[0x50]))?;
-    show_number(out, "s_num_fc_blks", number(bytes, 0x54))?;
-    show_number(out, "s_head", number(bytes, 0x58))?;
-    show_bytes(out, "s_checksum", &bytes[0xfc..0x100])?;
-    show_bytes(out, "s_users", &bytes[0x100..0x110])
+/// Writes an object for each field that fails its test.
+fn write_failed(fields: &[Field<'_>], out: &mut impl Write) -> io::Result<()> {
+    let mut comma = "";
+    for field in fields {
+        if let Some(Failed { refusal, wanted }) = field.failed {
+            write!(out, "{comma}{{\"field\":\"{}\",\"refusal\":", field.name)?;
+            write_refusal(out, refusal)?;
+            write!(out, ",\"wanted\":\"{wanted}\"}}")?;
+            comma = ",";
+        }
+    }
+    Ok(())
 }

@@ -83,38 +83,52 @@ fn has_volume_magic(bytes: &[u8], place: usize) -> bool {
     }
 }
 
-/// Says whether an opening accepts these superblock bytes and, if not, what the owner can do. `standing` is in the superblock's place; the
-/// log has `blocks` blocks.
-pub(crate) fn tell(
+/// Why an opening refuses a log with these superblock bytes and this many blocks, as far as the superblock shows it.
+pub(crate) fn refusal_of(bytes: &[u8], blocks: u64) -> Option<JournalError>
+    requires { 1024 ≤ length bytes.now }
+{
+    match Super::read(bytes, blocks) {
+        Ok(fields) if fields.s_sequence < GREATEST_NUMBER => None,
+        Ok(_) => Some(JournalError::SequenceEnd),
+        Err(e) => Some(e),
+    }
+}
+
+/// Says whether an opening accepts a superblock that this refusal, if any, is for.
+pub(crate) fn tell(refusal: Option<JournalError>, out: &mut impl Write) -> io::Result<()> {
+    match refusal {
+        None => writeln!(out, "an opening takes this superblock"),
+        Some(JournalError::SequenceEnd) => writeln!(
+            out,
+            "an opening takes this superblock, and then refuses the log: 10 SequenceEnd"
+        ),
+        Some(e) => writeln!(
+            out,
+            "an opening refuses this superblock: {} {e}",
+            e.number()
+        ),
+    }
+}
+
+/// Says what an owner can do about this refusal of these superblock bytes. `standing` is in the superblock's place; the log has `blocks`
+/// blocks.
+pub(crate) fn tell_ways_out(
     bytes: &[u8],
     blocks: u64,
     standing: Standing,
+    refusal: JournalError,
     out: &mut impl Write,
 ) -> io::Result<()>
     requires { 1024 ≤ length bytes.now }
 {
-    match Super::read(bytes, blocks) {
-        Ok(fields) => tell_taken(&fields, out),
-        Err(e) => {
-            writeln!(
-                out,
-                "an opening refuses this superblock: {} {e}",
-                e.number()
-            )?;
-            tell_way_out(bytes, blocks, standing, e, out)
-        }
+    match refusal {
+        JournalError::SequenceEnd => tell_end(&Super::fields(bytes), out),
+        e => tell_way_out(bytes, blocks, standing, e, out),
     }
 }
 
-/// Says that an opening accepts these fields, and whether it then has a number for another transaction.
-fn tell_taken(fields: &Super, out: &mut impl Write) -> io::Result<()> {
-    if fields.s_sequence < GREATEST_NUMBER {
-        return writeln!(out, "an opening takes this superblock");
-    }
-    writeln!(
-        out,
-        "an opening takes this superblock, and then refuses the log: 10 SequenceEnd"
-    )?;
+/// Says what an owner can do about a log that has no number left for another transaction.
+fn tell_end(fields: &Super, out: &mut impl Write) -> io::Result<()> {
     if fields.s_start == 0 {
         writeln!(
             out,
@@ -193,10 +207,10 @@ pub(crate) fn say_length(fields: &Super, blocks: u64, out: &mut impl Write) -> i
 
 /// Says for each feature that prevents an opening what its owner does about it.
 fn tell_features(fields: &Super, out: &mut impl Write) -> io::Result<()> {
-    write_ways_out(out, fields.s_feature_compat, 0, &COMPATIBLE)?;
+    write_ways_out(out, fields.s_feature_compat, 0, COMPATIBLE)?;
     let taken = REVOKE | WIDE_NUMBERS;
-    write_ways_out(out, fields.s_feature_incompat, taken, &INCOMPATIBLE)?;
-    write_ways_out(out, fields.s_feature_ro_compat, 0, &READ_ONLY_COMPATIBLE)?;
+    write_ways_out(out, fields.s_feature_incompat, taken, INCOMPATIBLE)?;
+    write_ways_out(out, fields.s_feature_ro_compat, 0, READ_ONLY_COMPATIBLE)?;
     if fields.s_feature_incompat & REVOKE == 0 {
         writeln!(
             out,

@@ -6,6 +6,7 @@ ghost use Rattle.log_dump.specs.Dumping.{HasDump, shape_of};
 ghost use Rattle.jbench_words.specs.declared.fault.Status.TheVariants.{Fine, Refused};
 ghost use Rattle.jbench_views.specs.Looked.{HasCopyAt, HasDumped, PrintsLeft};
 
+use crate::object::write_object;
 use block_device::Device;
 use jbench_logs::logs;
 use jbench_words::fault::Status;
@@ -20,8 +21,8 @@ use std::io::{BufWriter, Write};
 /// Bytes of a line of hex.
 const LINE: usize = 32;
 
-/// Prints a device's log, up to a damaged block if the words ask for it; or the bytes of one copy in hex, 32 a line. Lines on `err` say why
-/// the log is refused, or that it has no such copy.
+/// Prints a device's log as lines or as one object, up to a damaged block if the words ask for it; or the bytes of one copy in hex, 32 a
+/// line. Lines on `err` say why the log is refused, or that it has no such copy.
 ///
 /// # Errors
 ///
@@ -40,6 +41,27 @@ pub fn dump<D: Device, W: Write + Drop, E: Write + Drop>(
     if let Some(place) = words.copy {
         return dump_copy(alloc, words.log, place, device, out, err);
     }
+    if !words.json {
+        return dump_lines(alloc, words, device, out, err);
+    }
+    let mut text = Vec::new(alloc);
+    let status = dump_lines(alloc, words, device, &mut text, err)?;
+    write_object(alloc, &text, out)?;
+    Ok(status)
+}
+
+/// Prints a device's log as lines, up to a damaged block if the words ask for it.
+fn dump_lines<D: Device, W: Write + Drop, E: Write + Drop>(
+    alloc: Global,
+    words: &DumpWords<'_>,
+    device: &mut D,
+    out: W,
+    err: E,
+) -> io::Result<Status>
+    ensures dumped { IfOk result (λ status. status ≡ Fine → D.honest device.new → HasDump (shape_of (D.state device.old)) (reading (D.state device.old).disk)) }
+    ensures other { IfOk result (λ status. status ≢ Fine → status ≡ Refused) }
+    ensures stays { Stays (D.state device.old) (D.state device.new) }
+{
     if words.damaged {
         dump_damaged(alloc, words.log, device, out, err)
     } else {

@@ -143,11 +143,7 @@ fn report(err: &mut impl Write, path: &str, fault: &Fault) -> io::Result<()> {
 
 /// Writes a file's name and why the command cannot go on with it.
 fn report_file(err: &mut impl Write, path: &str, e: &io::Error) -> io::Result<()> {
-    writeln!(err, "jbench: file {path}")?;
-    match e.kind() {
-        ErrorKind::WouldBlock => writeln!(err, "  another program has it"),
-        _ => writeln!(err, "  {e}"),
-    }
+    writeln!(err, "jbench: file {path}\n  {e}")
 }
 
 /// Writes why a command on the file `path` cannot go on, and answers `Refused`.

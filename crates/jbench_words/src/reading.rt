@@ -6,7 +6,7 @@ ghost use Rattle.log_format.specs.Size.{IsBlockSize};
 use crate::wanted::Wanted;
 use crate::words::{
     ApplyWords, BenchWords, CatWords, DumpWords, FormatWords, LogPaths, RecoverWords, RunWords,
-    ServeWords, StopWords, SweepWords, Words,
+    ServeWords, ShowWords, StopWords, SweepWords, Words,
 };
 use clap::ArgMatches;
 use jbench_help::Shell;
@@ -187,11 +187,23 @@ fn dump_words<'a>(matches: &ArgMatches<'a>) -> Result<DumpWords<'a>, Wanted> {
     if damaged && copy.is_some() {
         return Err(Wanted::DamagedOrCopy);
     }
+    let json = matches.get_flag("json");
+    if json && copy.is_some() {
+        return Err(Wanted::JsonOrCopy);
+    }
     Ok(DumpWords {
         log: log_told(matches),
         damaged,
         copy,
+        json,
     })
+}
+
+fn show_words<'a>(matches: &ArgMatches<'a>) -> ShowWords<'a> {
+    ShowWords {
+        log: log_told(matches),
+        json: matches.get_flag("json"),
+    }
 }
 
 fn cat_words<'a>(matches: &ArgMatches<'a>) -> Result<CatWords<'a>, Wanted> {
@@ -210,6 +222,7 @@ fn recover_words<'a>(matches: &ArgMatches<'a>) -> Result<RecoverWords<'a>, Wante
         paths: log_paths(matches),
         before_damage: matches.get_flag("before-damage"),
         dry_run: matches.get_flag("dry-run"),
+        json: matches.get_flag("json"),
         wait: wait_told(matches)?,
     })
 }
@@ -221,6 +234,7 @@ fn apply_words<'a>(matches: &ArgMatches<'a>) -> Result<ApplyWords<'a>, Wanted> {
         stay: matches.get_flag("stay"),
         keep_going: matches.get_flag("keep-going"),
         make_room: matches.get_flag("make-room"),
+        json: matches.get_flag("json"),
         wait: wait_told(matches)?,
     })
 }
@@ -289,7 +303,7 @@ fn command_words<'a>(
         "format" => format_words(alloc, told).map(Words::Format),
         "dump" => dump_words(told).map(Words::Dump),
         "cat" => cat_words(told).map(Words::Cat),
-        "show" => Ok(Words::Show(log_told(told))),
+        "show" => Ok(Words::Show(show_words(told))),
         "recover" => recover_words(told).map(Words::Recover),
         "upgrade" => Ok(Words::Upgrade(log_told(told))),
         "apply" => apply_words(told).map(Words::Apply),

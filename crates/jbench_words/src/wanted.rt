@@ -43,6 +43,8 @@ pub(crate) enum Wanted {
     Place,
     /// Only one of `--damaged` and `--copy`.
     DamagedOrCopy,
+    /// Only one of `--json` and `--copy`.
+    JsonOrCopy,
     /// A home block for `cat`.
     Block,
     /// A shell's name for `completions`.
@@ -85,6 +87,7 @@ fn line_of(wanted: Wanted) -> &'static str {
         Wanted::Wait => "invalid value for '--wait <SECONDS>': 1 to 86400 is wanted",
         Wanted::Place => "invalid value for '--copy <PLACE>': a number from 1 on is wanted",
         Wanted::DamagedOrCopy => "the argument '--damaged' cannot be used with '--copy <PLACE>'",
+        Wanted::JsonOrCopy => "the argument '--json' cannot be used with '--copy <PLACE>'",
         Wanted::Block => "invalid value for '<BLOCK>': a number from 0 on is wanted",
         Wanted::Shell => "invalid value for '<SHELL>': bash, zsh or fish is wanted",
         Wanted::Command => "a command is wanted",
@@ -95,7 +98,9 @@ fn line_of(wanted: Wanted) -> &'static str {
 /// The kind of the error.
 fn kind_of(wanted: Wanted) -> ErrorKind {
     match wanted {
-        Wanted::StopOrFail | Wanted::DamagedOrCopy => ErrorKind::ArgumentConflict,
+        Wanted::StopOrFail | Wanted::DamagedOrCopy | Wanted::JsonOrCopy => {
+            ErrorKind::ArgumentConflict
+        }
         _ => ErrorKind::ValueValidation,
     }
 }

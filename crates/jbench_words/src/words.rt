@@ -30,8 +30,8 @@ pub enum Words<'a> {
     Dump(DumpWords<'a>),
     /// Prints a block as an opening would leave it.
     Cat(CatWords<'a>),
-    /// Prints the superblock of the log in this file.
-    Show(&'a str),
+    /// Prints a log's superblock.
+    Show(ShowWords<'a>),
     /// Opens a log, or says what that would do.
     Recover(RecoverWords<'a>),
     /// Gives the empty log in this file 64-bit block numbers.
@@ -116,6 +116,8 @@ pub struct ApplyWords<'a> {
     pub keep_going: bool,
     /// Whether to make a checkpoint round when the ring has no room for an operation.
     pub make_room: bool,
+    /// Whether to print an object of JSON for each line.
+    pub json: bool,
     /// The most seconds to wait for a locked file.
     pub wait: u64,
 }
@@ -128,6 +130,16 @@ pub struct DumpWords<'a> {
     pub damaged: bool,
     /// The place of the copy to print instead of the log, if given.
     pub copy: Option<u64>,
+    /// Whether to print an object of JSON.
+    pub json: bool,
+}
+
+#[derive(Clone, Copy)]
+pub struct ShowWords<'a> {
+    /// The log's file.
+    pub log: &'a str,
+    /// Whether to print an object of JSON.
+    pub json: bool,
 }
 
 #[derive(Clone, Copy)]
@@ -146,6 +158,8 @@ pub struct RecoverWords<'a> {
     pub before_damage: bool,
     /// Whether to say what would be done, and write nothing.
     pub dry_run: bool,
+    /// Whether to print an object of JSON.
+    pub json: bool,
     /// The most seconds to wait for a locked file.
     pub wait: u64,
 }

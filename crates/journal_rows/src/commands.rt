@@ -10,7 +10,7 @@ use jbench_words::fault::Status;
 use jbench_words::watch::Unwatched;
 use jbench_words::words::{
     ApplyWords, BenchWords, CatWords, DumpWords, FormatWords, RecoverWords, RunWords, ServeWords,
-    StopWords, SweepWords, Words, answer, parse,
+    ShowWords, StopWords, SweepWords, Words, answer, parse,
 };
 use journal_script::{Script, ScriptError, read};
 use run_rows::journals::{Runner, Shared};
@@ -247,16 +247,20 @@ pub fn show(alloc: Global, given: &str) -> Result<String, RowError> {
     let (line, log) = cut(given, "\n")?;
     let words = words_in(alloc, line)?;
     match parse(alloc, &words) {
-        Ok(Words::Show(path)) => show_device(alloc, path, log_on_device(alloc, log)?),
+        Ok(Words::Show(words)) => show_device(alloc, &words, log_on_device(alloc, log)?),
         _ => Err(RowError::Unread),
     }
 }
 
 /// The output of `show` for this device's log.
-fn show_device(alloc: Global, path: &str, mut device: MemDevice) -> Result<String, RowError> {
+fn show_device(
+    alloc: Global,
+    words: &ShowWords<'_>,
+    mut device: MemDevice,
+) -> Result<String, RowError> {
     let mut out = Vec::new(alloc);
     let mut err = Vec::new(alloc);
-    match show::show(alloc, path, &mut device, &mut out, &mut err) {
+    match show::show(alloc, words, &mut device, &mut out, &mut err) {
         Ok(status) => text_of(alloc, &out, &err, status),
         Err(_) => Err(RowError::Memory),
     }
@@ -281,7 +285,10 @@ fn told(alloc: Global, words: &Words<'_>) -> Result<String, RowError> {
         Words::Format(words) => told_format(alloc, words),
         Words::Dump(words) => Ok(told_dump(alloc, words)?),
         Words::Cat(words) => Ok(told_cat(alloc, words)?),
-        Words::Show(log) => Ok(format!(in alloc; "show {log}")?),
+        Words::Show(words) => {
+            let json = if words.json { ", json" } else { "" };
+            Ok(format!(in alloc; "show {}{json}", words.log)?)
+        }
         Words::Recover(words) => Ok(told_recover(alloc, words)?),
         Words::Upgrade(log) => Ok(format!(in alloc; "upgrade {log}")?),
         Words::Apply(words) => Ok(told_apply(alloc, words)?),
@@ -359,6 +366,9 @@ fn told_dump(alloc: Global, words: &DumpWords<'_>) -> Result<String, AllocError>
     if let Some(place) = words.copy {
         write!(text, ", copy {place}")?;
     }
+    if words.json {
+        text.push_str(", json")?;
+    }
     Ok(text)
 }
 
@@ -373,7 +383,7 @@ fn told_cat(alloc: Global, words: &CatWords<'_>) -> Result<String, AllocError> {
 
 fn told_recover(alloc: Global, words: &RecoverWords<'_>) -> Result<String, AllocError> {
     let mut text = format!(in alloc;
-        "recover {} {}{}{}",
+        "recover {} {}{}{}{}",
         words.paths.log,
         words.paths.home,
         if words.before_damage {
@@ -381,7 +391,8 @@ fn told_recover(alloc: Global, words: &RecoverWords<'_>) -> Result<String, Alloc
         } else {
             ""
         },
-        if words.dry_run { ", dry run" } else { "" }
+        if words.dry_run { ", dry run" } else { "" },
+        if words.json { ", json" } else { "" }
     )?;
     push_wait(&mut text, words.wait)?;
     Ok(text)
@@ -404,13 +415,14 @@ fn answered(alloc: Global, e: &clap::Error) -> Result<String, RowError> {
 
 fn told_apply(alloc: Global, words: &ApplyWords<'_>) -> Result<String, AllocError> {
     let mut text = format!(in alloc;
-        "apply {} {} {}{}{}{}",
+        "apply {} {} {}{}{}{}{}",
         words.paths.log,
         words.paths.home,
         words.script,
         if words.stay { ", stay" } else { "" },
         if words.keep_going { ", keep going" } else { "" },
-        if words.make_room { ", make room" } else { "" }
+        if words.make_room { ", make room" } else { "" },
+        if words.json { ", json" } else { "" }
     )?;
     push_wait(&mut text, words.wait)?;
     Ok(text)

@@ -2,6 +2,8 @@
 use super::{Step, first_other, said};
 use file_device::{Unlocked, lock, lock_shared};
 use std::fs::{File, OpenOptions};
+use std::os::unix::fs::MetadataExt;
+use std::str::from_utf8;
 use std::test::Fail;
 use std::thread::Threads;
 use std::time::{Duration, Instant};
@@ -124,14 +126,53 @@ fn first_while_written(
 ) -> Result<Option<String>, Fail> {
     let file = opened(rt, path)?;
     lock(&file)?;
-    first_other(rt, rows)
+    first_while_held(rt, &file, rows)
 }
 
 /// The first row with another result while another program reads this file.
 fn first_while_read(rt: &HostRuntime, path: &str, rows: &[Step]) -> Result<Option<String>, Fail> {
     let file = opened(rt, path)?;
     lock_shared(&file)?;
-    first_other(rt, rows)
+    first_while_held(rt, &file, rows)
+}
+
+/// What a refusal says if the system names no process.
+const HELD: &str = "another program has it";
+
+/// The first row with another result while this file is locked. Refusals name the process that has the lock.
+fn first_while_held(rt: &HostRuntime, file: &File, rows: &[Step]) -> Result<Option<String>, Fail> {
+    let reason = reason_of(rt, file)?;
+    for (line, wanted) in rows {
+        let found = said(rt, line)?;
+        let wanted = match wanted.split_once(HELD) {
+            Some((before, after)) => format!(in rt.alloc(); "{before}{reason}{after}")?,
+            None => format!(in rt.alloc(); "{wanted}")?,
+        };
+        if found.as_str() != wanted.as_str() {
+            return Ok(Some(format!(in rt.alloc(); "{line}\n{found}")?));
+        }
+    }
+    Ok(None)
+}
+
+/// What a refusal says while this process has a file's lock: the process, if the system lists the lock.
+fn reason_of(rt: &HostRuntime, file: &File) -> Result<String, Fail> {
+    let stat = fs::read(rt, "/proc/self/stat")?;
+    let process = match from_utf8(&stat)?.split_once(' ') {
+        Some((process, _)) => process,
+        None => return Err(Fail::new("no process number")),
+    };
+    let metadata = file.metadata()?;
+    let (device, inode) = (metadata.dev(), metadata.ino());
+    let (major, minor) = (device >> 8 & 0xfff, device & 0xff | device >> 12 & 0xfff00);
+    let end = format!(in rt.alloc(); " {process} {major:02x}:{minor:02x}:{inode} 0 EOF")?;
+    let locks = fs::read(rt, "/proc/locks").unwrap_or(Vec::new(rt.alloc()));
+    for lock in from_utf8(&locks)?.lines() {
+        if lock.ends_with(end.as_str()) {
+            return Ok(format!(in rt.alloc(); "it is locked by process {process}")?);
+        }
+    }
+    Ok(format!(in rt.alloc(); "{HELD}")?)
 }
 
 /// An existing file.
