@@ -9,7 +9,7 @@ use Rattle.journal_model.specs.declared.number.Area.{Area}
 use Rattle.journal_model.specs.declared.number.Area.TheVariants.{Log, Home}
 use Rattle.journal_model.specs.Disk.{Cell, same_area, with_cell, written, held}
 use Rattle.block_device.specs.Memory.{counted, writes_of, Moments, after_call, after_calls, blank}
-use Rattle.block_device.specs.MemInvariant.{wrote_block, newest_from, newest, or_else, settled, FillsBlock, Indexes, IsIndexed, IsNumbered, NumberedFrom, flushed_after, flushed_number, Forgets, Remembers, renoted}
+use Rattle.block_device.specs.MemInvariant.{wrote_block, newest_from, newest, or_else, unnumbered, FillsBlock, Indexes, IsIndexed, IsNumbered, NumberedFrom, flushed_after, flushed_number, Forgets, Remembers, renoted}
 use Rattle.block_device.specs.MemIndex.{noted_in, newest_in, NotesOnly}
 use Rattle.block_device.specs.declared.memory_index.MemIndex.{MemIndex}
 use Rattle.block_device.specs.declared.memory.Write.{Write}
@@ -171,13 +171,13 @@ pub take_call : (cs : List Call) (i : ℕ) (item c : Call) → i < length cs →
 take_call cs i item c low at is = take_more cs i item low ∙ ap (λ x. take i cs ++ x ∷ []) (sym at ∙ is)
 
 -- settling one more call, which stands after those that are settled
-module _ (now start : List Call) (i : ℕ) (item c : Call) (low : i < length start) (e : now ≡ map settled (take i start) ++ drop i start) (at : item ≡ get_or now i item) (is : item ≡ c) where
+module _ (now start : List Call) (i : ℕ) (item c : Call) (low : i < length start) (e : now ≡ map unnumbered (take i start) ++ drop i start) (at : item ≡ get_or now i item) (is : item ≡ c) where
   front : List Call
-  front = map settled (take i start)
+  front = map unnumbered (take i start)
 
   front_length : length front ≡ i
   unfolding front
-  front_length = length-map (take i start) settled ∙ length-take-le i start (omega arith)
+  front_length = length-map (take i start) unnumbered ∙ length-take-le i start (omega arith)
 
   now_splits : now ≡ front ++ get_or start i item ∷ drop (i + 1) start
   unfolding front
@@ -186,18 +186,18 @@ module _ (now start : List Call) (i : ℕ) (item c : Call) (low : i < length sta
   is_next : get_or start i item ≡ c
   is_next = sym (get_or_at front (get_or start i item) (drop (i + 1) start) item i front_length) ∙ ap (λ xs. get_or xs i item) (sym now_splits) ∙ sym at ∙ is
 
-  settled_next : map settled (take (i + 1) start) ++ drop (i + 1) start ≡ front ++ settled c ∷ drop (i + 1) start
+  unnumbered_next : map unnumbered (take (i + 1) start) ++ drop (i + 1) start ≡ front ++ unnumbered c ∷ drop (i + 1) start
   unfolding front
-  settled_next =
-      ap (λ xs. map settled xs ++ drop (i + 1) start) (take_more start i item low ∙ ap (λ x. take i start ++ x ∷ []) is_next)
-      ∙ ap (λ xs. xs ++ drop (i + 1) start) (map_push settled (take i start) c)
-      ∙ append_assoc front (settled c ∷ []) (drop (i + 1) start)
+  unnumbered_next =
+      ap (λ xs. map unnumbered xs ++ drop (i + 1) start) (take_more start i item low ∙ ap (λ x. take i start ++ x ∷ []) is_next)
+      ∙ ap (λ xs. xs ++ drop (i + 1) start) (map_push unnumbered (take i start) c)
+      ∙ append_assoc front (unnumbered c ∷ []) (drop (i + 1) start)
 
-  pub settle_call : set now i (settled c) ≡ map settled (take (i + 1) start) ++ drop (i + 1) start
-  settle_call =
-      ap (λ xs. set xs i (settled c)) now_splits
-      ∙ set_at front (get_or start i item) (drop (i + 1) start) (settled c) i front_length
-      ∙ sym settled_next
+  pub unnumber_call : set now i (unnumbered c) ≡ map unnumbered (take (i + 1) start) ++ drop (i + 1) start
+  unnumber_call =
+      ap (λ xs. set xs i (unnumbered c)) now_splits
+      ∙ set_at front (get_or start i item) (drop (i + 1) start) (unnumbered c) i front_length
+      ∙ sym unnumbered_next
 
 -- the place of a block's newest write, and its bytes
 pub record NewestWrite (a : Area) (n i : ℕ) (cs : List Call) : Type 0 where

@@ -8,7 +8,7 @@ use Rattle.journal_model.specs.declared.number.Area.{Area}
 use Rattle.journal_model.specs.declared.number.Area.TheVariants.{Log, Home}
 use Rattle.journal_model.specs.Disk.{IsOneOf, Cell, Disk, same_area, held}
 use Rattle.block_device.specs.Memory.{counted, writes_of, Moments, after_call, after_calls, blank, unflushed, unflushed_after, durable, oldest, kept_value}
-use Rattle.block_device.specs.MemInvariant.{wrote_block, newest_from, newest, or_else, settled, survivors, survives_crash, is_kept, flushed_in, FillsBlock, Indexes, IsNumbered, NumberedFrom, IsLeft, flushed_after, flushed_number, Forgets, Remembers, renoted}
+use Rattle.block_device.specs.MemInvariant.{wrote_block, newest_from, newest, or_else, unnumbered, survivors, survives_crash, is_kept, flushed_in, FillsBlock, Indexes, IsNumbered, NumberedFrom, IsLeft, flushed_after, flushed_number, Forgets, Remembers, renoted}
 use Rattle.block_device.specs.MemIndex.{noted_in}
 use Rattle.block_device.specs.declared.memory_index.MemIndex.{MemIndex}
 use Rattle.block_device.specs.declared.memory.Write.{Write}
@@ -31,7 +31,7 @@ pub survivors_left : (keep : List ℕ) (l h : ℕ) (cs : List Call) → AllByRec
 survivors_left keep l h [] = tt
 survivors_left keep l h (Flushed a ∷ cs) = survivors_left keep l h cs
 survivors_left keep l h (Wrote w ∷ cs) =
-    elim (survives_crash keep l h (Wrote w)) as (λ b. AllByRecursion IsLeft (map settled (if b then Wrote w ∷ filter (survives_crash keep l h) cs else filter (survives_crash keep l h) cs)))
+    elim (survives_crash keep l h (Wrote w)) as (λ b. AllByRecursion IsLeft (map unnumbered (if b then Wrote w ∷ filter (survives_crash keep l h) cs else filter (survives_crash keep l h) cs)))
     [ true ↦ (refl, survivors_left keep l h cs) | false ↦ survivors_left keep l h cs ]
 
 -- a write with number 0 is one that a crash left
@@ -82,7 +82,7 @@ pub survivors_fill : (size : ℕ) (keep : List ℕ) (l h : ℕ) (cs : List Call)
 survivors_fill size keep l h [] all = tt
 survivors_fill size keep l h (Flushed a ∷ cs) all = survivors_fill size keep l h cs all.1
 survivors_fill size keep l h (Wrote w ∷ cs) all =
-    elim (survives_crash keep l h (Wrote w)) as (λ b. AllByRecursion (FillsBlock size) (map settled (if b then Wrote w ∷ filter (survives_crash keep l h) cs else filter (survives_crash keep l h) cs)))
+    elim (survives_crash keep l h (Wrote w)) as (λ b. AllByRecursion (FillsBlock size) (map unnumbered (if b then Wrote w ∷ filter (survives_crash keep l h) cs else filter (survives_crash keep l h) cs)))
     [ true ↦ (all.0, survivors_fill size keep l h cs all.1) | false ↦ survivors_fill size keep l h cs all.1 ]
 
 -- whether some call wrote a block
@@ -114,7 +114,7 @@ pub survivors_wrote : (a : Area) (n : ℕ) (keep : List ℕ) (l h : ℕ) (cs : L
 survivors_wrote a n keep l h [] e = e
 survivors_wrote a n keep l h (Flushed area ∷ cs) e = or_later (any_wrote a n cs) false (survivors_wrote a n keep l h cs e)
 survivors_wrote a n keep l h (Wrote w ∷ cs) e =
-    (elim (survives_crash keep l h (Wrote w)) as (λ b. any_wrote a n (map settled (if b then Wrote w ∷ filter (survives_crash keep l h) cs else filter (survives_crash keep l h) cs)) ≡ true → (any_wrote a n cs || wrote_block a n (Wrote w)) ≡ true) [
+    (elim (survives_crash keep l h (Wrote w)) as (λ b. any_wrote a n (map unnumbered (if b then Wrote w ∷ filter (survives_crash keep l h) cs else filter (survives_crash keep l h) cs)) ≡ true → (any_wrote a n cs || wrote_block a n (Wrote w)) ≡ true) [
       | true ↦ or_first (any_wrote a n (survivors keep l h cs)) (wrote_block a n (Wrote w)) (any_wrote a n cs) (survivors_wrote a n keep l h cs)
       | false ↦ (λ f. or_later (any_wrote a n cs) (wrote_block a n (Wrote w)) (survivors_wrote a n keep l h cs f))
     ]) e
@@ -164,7 +164,7 @@ survivors_last keep l h a n (Wrote w ∷ cs) =
     ∙ ap (one_of (last_surviving keep (flushed_in l h a) a n cs)) (same_lives here (flushed_in l h w.area) (flushed_in l h a) w.number (is_kept keep w.number) w (same_flush l h a w.area (n == w.block)))
   where
     last_kept : (b : Bool) (w : Write) (cs : List Call) →
-        last_bytes a n (map settled (if b then Wrote w ∷ filter (survives_crash keep l h) cs else filter (survives_crash keep l h) cs))
+        last_bytes a n (map unnumbered (if b then Wrote w ∷ filter (survives_crash keep l h) cs else filter (survives_crash keep l h) cs))
         ≡ (if b then one_of (last_bytes a n (survivors keep l h cs)) (if same_area a w.area && (n == w.block) then Some w.bytes else None) else last_bytes a n (survivors keep l h cs))
     last_kept true w cs = refl
     last_kept false w cs = refl

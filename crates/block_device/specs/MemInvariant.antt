@@ -82,12 +82,12 @@ abbrev pub survives_crash : List ℕ → ℕ → ℕ → Call → Bool
 survives_crash keep log home (Flushed a) = false
 survives_crash keep log home (Wrote w) = nat_le w.number (flushed_in log home w.area) || is_kept keep w.number
 
-abbrev pub settled : Call → Call
-settled (Wrote w) = Wrote (record { area = w.area; block = w.block; number = 0; bytes = w.bytes })
-settled (Flushed a) = Flushed a
+abbrev pub unnumbered : Call → Call
+unnumbered (Wrote w) = Wrote (record { area = w.area; block = w.block; number = 0; bytes = w.bytes })
+unnumbered (Flushed a) = Flushed a
 
 abbrev pub survivors : List ℕ → ℕ → ℕ → List Call → List Call
-survivors keep log home calls = map settled (filter (survives_crash keep log home) calls)
+survivors keep log home calls = map unnumbered (filter (survives_crash keep log home) calls)
 
 abbrev pub Forgets : List Call → MemIndex → MemIndex → Type 0
 Forgets calls old new =

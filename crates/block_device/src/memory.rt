@@ -1,6 +1,6 @@
 //! A device in memory, as the list of its calls.
 ghost use Rattle.std.specs.Prelude.{◌≡◌, IfOk, map};
-ghost use Rattle.block_device.specs.MemInvariant.{survives_crash, settled, survivors, Forgets, Remembers};
+ghost use Rattle.block_device.specs.MemInvariant.{survives_crash, unnumbered, survivors, Forgets, Remembers};
 
 use crate::memory_index::MemIndex;
 use crate::stored::StoredBlock;
@@ -368,12 +368,12 @@ fn keep_survivors(calls: &mut Vec<Call>, keep: &[u64], log_flushed: u64, home_fl
     ensures { calls.new.items ≡ survivors keep.now log_flushed home_flushed calls.old.items }
 {
     calls.retain(|call| survives(call, keep, log_flushed, home_flushed));
-    settle(calls);
+    drop_numbers(calls);
 }
 
 /// Takes the numbers from the writes.
-fn settle(calls: &mut [Call])
-    ensures { calls.new ≡ map settled calls.old }
+fn drop_numbers(calls: &mut [Call])
+    ensures { calls.new ≡ map unnumbered calls.old }
 {
     for call in calls.iter_mut() {
         if let Call::Wrote(write) = call {

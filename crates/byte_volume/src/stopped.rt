@@ -40,7 +40,7 @@ impl Stopped {
     }
 
     /// Notes that a handle of this transaction has stopped.
-    pub fn note(&mut self, tid: Tid)
+    pub fn register(&mut self, tid: Tid)
         ensures noted { tid ≤ self.new }
         ensures kept { self.old ≤ self.new }
     {

@@ -85,7 +85,7 @@ pub fn revoke_blocks<J: JournalName, D: Device, R: Record, G: Gate, W: Wait>(
     let mut handle = session.start(rt, count)?;
     let revoked = revoke_all(rt, session, &mut handle, first, count);
     let ticket = session.stop(rt, handle);
-    stopped.note(ticket.tid());
+    stopped.register(ticket.tid());
     match revoked {
         Ok(()) => Ok(ticket),
         Err(e) => Err(e),

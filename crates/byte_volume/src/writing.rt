@@ -175,7 +175,7 @@ fn write_blocks<J: JournalName, D: Device, R: Record, G: Gate, W: Wait>(
     let mut handle = session.start(rt, blocks)?;
     let filled = fill(rt, session, &mut handle, first, bytes, size);
     let ticket = session.stop(rt, handle);
-    stopped.note(ticket.tid());
+    stopped.register(ticket.tid());
     match filled {
         Ok(()) => Ok(ticket),
         Err(e) => Err(e),

@@ -8,7 +8,7 @@ use crate::work::{Plan, Work};
 use block_device::Device;
 use group_commit::Receipt;
 use jbench_words::fault::{self, Fault};
-use jbench_words::watch::{Step, Watch};
+use jbench_words::watch::{WatchStep, Watch};
 use jbench_words::words::BenchWords;
 use journal_model::{Area, JournalError};
 use recovery::Opened;
@@ -209,7 +209,7 @@ fn one_more<D: Device + Drop, C: Clock, H: Watch>(
     run.commit(plan, clock)?;
     let second = run.taken.as_secs();
     if second > before {
-        watch.goes_on(Step::Second {
+        watch.goes_on(WatchStep::Second {
             second,
             transactions: run.tally.commits(),
         });

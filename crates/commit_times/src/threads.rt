@@ -8,10 +8,10 @@ use crate::counted::Counted;
 use crate::work::{Plan, close};
 use block_device::Device;
 use jbench_words::fault::{self, Fault};
-use jbench_words::watch::{Step, Watch};
+use jbench_words::watch::{WatchStep, Watch};
 use jbench_words::words::BenchWords;
 use journal_model::{Area, JournalError};
-use shared_journal::{Journal, JournalName, LaidJournal, Seat, lay};
+use shared_journal::{Journal, JournalName, UnnamedJournal, Seat, create};
 use std::alloc::{AllocError, Global};
 use std::collections::VecDeque;
 use std::io::Write;
@@ -81,9 +81,9 @@ fn do_and_say<
     ensures { IfOk result (λ device. D.honest device → IsLeftClosed (D.state device)) }
 {
     let plans = plans(alloc, words.copies, device.blocks(Area::Home), clients)?;
-    let laid = lay_on(alloc, Counted::new(device))?;
+    let unnamed = create_on(alloc, Counted::new(device))?;
     let (done, commits, device) = do_all::<Brand, _, _, _, _>(
-        rt, clock, alloc, words, plans, laid, watch,
+        rt, clock, alloc, words, plans, unnamed, watch,
     )?;
     let transactions = done.tally.commits();
     say(words, done, commits, &device, out)?;
@@ -101,10 +101,10 @@ fn plans(alloc: Global, copies: u64, home_blocks: u64, clients: u64) -> Result<V
     Ok(plans)
 }
 
-fn lay_on<D: Device + Drop>(alloc: Global, device: D) -> Result<LaidJournal<D>, JournalError> {
+fn create_on<D: Device + Drop>(alloc: Global, device: D) -> Result<UnnamedJournal<D>, JournalError> {
     match recovery::open(alloc, device) {
-        Ok(opened) => match lay(alloc, opened) {
-            Ok(laid) => Ok(laid),
+        Ok(opened) => match create(alloc, opened) {
+            Ok(unnamed) => Ok(unnamed),
             Err((_, e)) => Err(e),
         },
         Err((_, e)) => Err(e),
@@ -124,13 +124,13 @@ fn do_all<
     alloc: Global,
     words: &BenchWords<'_>,
     plans: Vec<Plan>,
-    laid: LaidJournal<D>,
+    unnamed: UnnamedJournal<D>,
     watch: &mut H,
 ) -> Result<(Done, u64, D), Fault>
-    requires name { laid.name ≡ J.name }
+    requires name { unnamed.name ≡ J.name }
     ensures { IfOk result (λ ended. D.honest ended.2 → IsLeftClosed (D.state ended.2)) }
 {
-    let (journal, seat) = laid.named::<J>();
+    let (journal, seat) = unnamed.named::<J>();
     let done = work(rt, clock, alloc, words, &journal, seat, plans, watch);
     let closed = close(journal.into_single());
     let (done, commits) = done?;
@@ -310,7 +310,7 @@ fn run_watched<'s, J: JournalName, D: Device, R: Wait, C: Clock, H: Watch>(
         client.one_more(rt)?;
         let second = client.done.taken.as_secs();
         if second > before {
-            watch.goes_on(Step::Second {
+            watch.goes_on(WatchStep::Second {
                 second,
                 transactions: client.shared.durable.load(Ordering::SeqCst),
             });

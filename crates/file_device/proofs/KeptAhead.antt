@@ -246,8 +246,8 @@ all-append P [] calls all rest = rest
 all-append P (c ∷ more) calls all rest = (all.0, all-append P more calls all.1 rest)
 
 -- reads follow reads
-pub read-behind : {old mid new : FileState} → HasRead old mid → HasRead mid new → HasRead old new
-read-behind {old} {mid} {new} first then = record {
+pub read-after : {old mid new : FileState} → HasRead old mid → HasRead mid new → HasRead old new
+read-after {old} {mid} {new} first then = record {
   calls = then.calls ++ first.calls;
   readings = all-append IsReading then.calls first.calls then.readings first.readings;
   after = then.after ∙ ap (λ (s : FileState). record s { calls = then.calls ++ s.calls }) first.after
@@ -255,10 +255,10 @@ read-behind {old} {mid} {new} first then = record {
 }
 
 -- a failed read, at a block's place, follows reads
-pub failed-behind : {old mid new : FileState} {area : Area} (n : ℕ) → HasRead old mid → HasFailedRead mid new area (n * mid.block_size) → HasFailedRead old new area (n * old.block_size)
-failed-behind {old} {mid} {new} {area} n first then =
+pub failed-after : {old mid new : FileState} {area : Area} (n : ℕ) → HasRead old mid → HasFailedRead mid new area (n * mid.block_size) → HasFailedRead old new area (n * old.block_size)
+failed-after {old} {mid} {new} {area} n first then =
     subst (λ (size : ℕ). HasFailedRead old new area (n * size)) (ap (λ (s : FileState). s.block_size) first.after)
-    (record { before = then.before; asked_before = read-behind first then.asked_before; after = then.after })
+    (record { before = then.before; asked_before = read-after first then.asked_before; after = then.after })
 
 -- reads leave the disk
 pub read-leaves : (contents : FileContents) {old new : FileState} → HasRead old new → file_state contents new ≡ file_state contents old

@@ -26,7 +26,7 @@ use Rattle.group_commit.specs.Close.CloseDid.{ClosesLog, StaysClean}
 use Rattle.journal_steps.specs.Journal.{Agrees, OpensOver}
 use Rattle.journal_steps.specs.Values.{JournalValue}
 use Rattle.group_commit.proofs.Finishing.{all-sealed}
-use Rattle.group_commit.proofs.Leading.{comes-behind, comes-closed, comes-failed, comes-out}
+use Rattle.group_commit.proofs.Leading.{comes-after, comes-closed, comes-failed, comes-out}
 use Rattle.journal_steps.proofs.Turning.{opens-over}
 
 -- a closed log opens to all that was sealed
@@ -130,21 +130,21 @@ module _ {D : Type 0} (state : D → DeviceState) where
       }
 
   -- earlier moves can be put in front of moves that end a journal
-  pub ends-behind : (old mid : JournalValue D) (sealed : History) (committed : ℕ) (after : Disk) (phase : Phase) →
+  pub ends-after : (old mid : JournalValue D) (sealed : History) (committed : ℕ) (after : Disk) (phase : Phase) →
       ComesTo old.journal (state old.device).disk mid.journal (state mid.device).disk Running →
       EndsWith mid.journal (state mid.device).disk sealed committed after phase → EndsWith old.journal (state old.device).disk sealed committed after phase
-  ends-behind old mid sealed committed after phase path ends = record {
+  ends-after old mid sealed committed after phase path ends = record {
     last = ends.last;
-    comes = comes-behind old.journal mid.journal ends.last (state old.device).disk (state mid.device).disk after phase path ends.comes;
+    comes = comes-after old.journal mid.journal ends.last (state old.device).disk (state mid.device).disk after phase path ends.comes;
     sealed_is = ends.sealed_is;
     committed_is = ends.committed_is;
   }
 
-  pub did-behind : (old mid : JournalValue D) (sealed : History) (committed : ℕ) (after : Disk) →
+  pub did-after : (old mid : JournalValue D) (sealed : History) (committed : ℕ) (after : Disk) →
       ComesTo old.journal (state old.device).disk mid.journal (state mid.device).disk Running →
       CloseDid mid.journal (state mid.device).disk sealed committed after → CloseDid old.journal (state old.device).disk sealed committed after
-  did-behind old mid sealed committed after path (ClosesLog ends) = ClosesLog (ends-behind old mid sealed committed after Closed path ends)
-  did-behind old mid sealed committed after path (StaysClean none ends) = StaysClean none (ends-behind old mid sealed committed after Shut path ends)
+  did-after old mid sealed committed after path (ClosesLog ends) = ClosesLog (ends-after old mid sealed committed after Closed path ends)
+  did-after old mid sealed committed after path (StaysClean none ends) = StaysClean none (ends-after old mid sealed committed after Shut path ends)
 
   -- handing out the journal as it is ends it
   pub parts-end : (old mid : JournalValue D) (device : D) (sealed : History) (committed : ℕ) →
@@ -155,7 +155,7 @@ module _ {D : Type 0} (state : D → DeviceState) where
     last = mid.journal;
     comes =
         subst (λ (d : D). ComesTo old.journal (state old.device).disk mid.journal (state d).disk Shut) (sym device_is)
-        (comes-behind old.journal mid.journal mid.journal (state old.device).disk (state mid.device).disk (state mid.device).disk Shut path
+        (comes-after old.journal mid.journal mid.journal (state old.device).disk (state mid.device).disk (state mid.device).disk Shut path
         (comes-out mid.journal (state mid.device).disk));
     sealed_is = sealed_is;
     committed_is = committed_is;

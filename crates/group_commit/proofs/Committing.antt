@@ -16,7 +16,7 @@ use Rattle.group_commit.specs.AllTurns.AllTurnsRefused.{FailedSealed, FailedUnse
 use Rattle.group_commit.specs.AllTurns.CommitsAll.{WithRunning, WithoutRunning}
 use Rattle.group_commit.specs.AllTurns.ReleaseRefused.{ReleaseFailed}
 use Rattle.group_commit.specs.Close.{ComesTo, HasSealed, LastRefused, Went, WentWrong, locked_journal}
-use Rattle.group_commit.specs.Close.LastRefused.{FailedBefore, FailedBehind, LeftUnsealed, NotMadeReady}
+use Rattle.group_commit.specs.Close.LastRefused.{FailedBefore, FailedAfter, LeftUnsealed, NotMadeReady}
 use Rattle.group_commit.specs.Rounds.{MakesNoRound, MakesRoomAlone}
 use Rattle.group_commit.proofs.Leading.{comes-same, comes-step}
 
@@ -71,7 +71,7 @@ module _ {D : Type 0} (state : D → DeviceState) where
   ready-refused : (old new : JournalValue D) (e : JournalError) → old.journal.engine.aborted ≡ false → IsReadyToSeal old.journal.front →
       0 < length old.journal.front.running.handles → LastRefused state old new e → AllTurnsRefused state old new e
   ready-refused old new e running ready joined (FailedBefore wrong) = FailedUnsealed running wrong
-  ready-refused old new e running ready joined (FailedBehind mid has wrong) = FailedSealed running ready mid has wrong
+  ready-refused old new e running ready joined (FailedAfter mid has wrong) = FailedSealed running ready mid has wrong
   ready-refused old new e running ready joined (NotMadeReady same) = SealUnready running ready joined same
   ready-refused old new e running ready joined (LeftUnsealed mid went all is) =
       let same : new ≡ mid = is ∙ locked-same mid (ap (λ (f : Front). f.locked) went.on.front ∙ ready.0) in

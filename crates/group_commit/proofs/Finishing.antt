@@ -32,13 +32,13 @@ use Rattle.log_epochs.specs.EngineWorld.Phase.{Running}
 use Rattle.log_epochs.specs.JournalWorld.{with_directs}
 use Rattle.group_commit.specs.Close.{CloseRefused, ComesTo, GoesOn, HasSealed, IsFinished, LastRefused, SealRefused, StaysUnsealed, Went, WentWrong, closing, closing_front, locked_journal, sealed_with, told_as, with_running}
 use Rattle.group_commit.specs.Close.CloseRefused.{CloseFailed, NoMemory, NotReady}
-use Rattle.group_commit.specs.Close.LastRefused.{FailedBefore, FailedBehind, LeftUnsealed, NotMadeReady}
+use Rattle.group_commit.specs.Close.LastRefused.{FailedBefore, FailedAfter, LeftUnsealed, NotMadeReady}
 use Rattle.group_commit.specs.Close.SealRefused.{NoMemoryForIt, NoRoomForIt}
-use Rattle.journal_steps.specs.Journal.{Agrees, CheckTurnDid, CheckTurnRefused, Does, FailsAndTells, FitsQuarter, HasRoomFor, NothingToRelease, TurnDid, TurnRefused, need_of}
+use Rattle.journal_steps.specs.Journal.{Agrees, CheckTurnDid, CheckTurnRefused, Does, FailsAndNotifies, FitsQuarter, HasRoomFor, NothingToRelease, TurnDid, TurnRefused, need_of}
 use Rattle.journal_steps.specs.Journal.CheckTurnRefused.{CheckAborted, CheckFailed}
 use Rattle.journal_steps.specs.Journal.TurnRefused.{DeviceFailed, MemoryIsShort, RingIsShort, WasAborted}
 use Rattle.journal_steps.specs.Values.{JournalValue}
-use Rattle.group_commit.proofs.Leading.{comes-behind, comes-nowhere, comes-same, comes-step}
+use Rattle.group_commit.proofs.Leading.{comes-after, comes-nowhere, comes-same, comes-step}
 
 -- the parts of the log that a commit or checkpoint step leaves
 record KeepsLog (old new : Engine) : Type 0 where
@@ -109,7 +109,7 @@ module _ {D : Type 0} (state : D → DeviceState) where
 
   -- two paths make one
   pub ways : (a b c : JournalValue D) → ComesBy a b → ComesBy b c → ComesBy a c
-  ways a b c one two = comes-behind a.journal b.journal c.journal (state a.device).disk (state b.device).disk (state c.device).disk Running one two
+  ways a b c one two = comes-after a.journal b.journal c.journal (state a.device).disk (state b.device).disk (state c.device).disk Running one two
 
   -- locking a transaction that a handle has joined is a path
   by-lock : (v : JournalValue D) → v.journal.front.aborted ≡ false → 0 < length v.journal.front.running.handles → ComesBy v (locked_journal v)
@@ -223,8 +223,8 @@ module _ {D : Type 0} (state : D → DeviceState) where
           committed = log.committed;
           shape = shape;
           path =
-              comes-behind old.journal did.done new.journal (state old.device).disk (state new.device).disk (state new.device).disk Running
-              (comes-behind old.journal did.mid did.done (state old.device).disk (state new.device).disk (state new.device).disk Running
+              comes-after old.journal did.done new.journal (state old.device).disk (state new.device).disk (state new.device).disk Running
+              (comes-after old.journal did.mid did.done (state old.device).disk (state new.device).disk (state new.device).disk Running
               (comes-step old.journal did.mid (state old.device).disk (state new.device).disk CommitStep (λ directs. refl) did.commits)
               (comes-step did.mid did.done (state new.device).disk (state new.device).disk Finish (λ directs. refl) did.finishes))
               (comes-step did.done new.journal (state new.device).disk (state new.device).disk (FrontStep (Raise tid)) (λ directs. refl) did.raises);
@@ -235,11 +235,11 @@ module _ {D : Type 0} (state : D → DeviceState) where
 
   -- a failed step, of which the front is then notified, is a path
   by-fault : (old new : JournalValue D) (fault : Event) → ((directs : List (ℕ × List ℕ)) → with_directs fault directs ≡ directs) →
-      FailsAndTells state fault old new → ComesBy old new
+      FailsAndNotifies state fault old new → ComesBy old new
   by-fault old new fault indirect fails =
-      comes-behind old.journal fails.mid new.journal (state old.device).disk (state new.device).disk (state new.device).disk Running
+      comes-after old.journal fails.mid new.journal (state old.device).disk (state new.device).disk (state new.device).disk Running
       (comes-step old.journal fails.mid (state old.device).disk (state new.device).disk fault indirect fails.fails)
-      (comes-step fails.mid new.journal (state new.device).disk (state new.device).disk AbortMark (λ directs. refl) fails.tells)
+      (comes-step fails.mid new.journal (state new.device).disk (state new.device).disk AbortMark (λ directs. refl) fails.notifies)
 
   -- a refused commit step has failed
   pub commit-wrong : (old new : JournalValue D) (e : JournalError) → old.journal.engine.aborted ≡ false → old.journal.engine.stage ≢ Idle →
@@ -248,8 +248,8 @@ module _ {D : Type 0} (state : D → DeviceState) where
   commit-wrong old new e running busy (RingIsShort due none same) shape = absurd (busy due.idle)
   commit-wrong old new e running busy (MemoryIsShort due room same) shape = absurd (busy due.idle)
   commit-wrong old new e running busy (DeviceFailed fails counted) shape =
-      let told : new.journal.front ≡ aborting old.journal.front = fails.tells.front ∙ ap (λ (f : Front). aborting f) fails.fails.front in
-      let engine : new.journal.engine ≡ record old.journal.engine { aborted = true } = fails.tells.engine ∙ fails.fails.engine.engine in (
+      let told : new.journal.front ≡ aborting old.journal.front = fails.notifies.front ∙ ap (λ (f : Front). aborting f) fails.fails.front in
+      let engine : new.journal.engine ≡ record old.journal.engine { aborted = true } = fails.notifies.engine ∙ fails.fails.engine.engine in (
         refl,
         record {
           on = record {
@@ -319,8 +319,8 @@ module _ {D : Type 0} (state : D → DeviceState) where
       × (new.journal.engine.committed ≡ old.journal.engine.committed)
   check-wrong old new e running (CheckAborted is same stays counted) shape = absurd (true≢false (sym is ∙ running))
   check-wrong old new e running (CheckFailed fails counted) shape =
-      let told : new.journal.front ≡ aborting old.journal.front = fails.tells.front ∙ ap (λ (f : Front). aborting f) fails.fails.front in
-      let engine : new.journal.engine ≡ record (begun old.journal.engine) { aborted = true } = fails.tells.engine ∙ fails.fails.engine.engine in
+      let told : new.journal.front ≡ aborting old.journal.front = fails.notifies.front ∙ ap (λ (f : Front). aborting f) fails.fails.front in
+      let engine : new.journal.engine ≡ record (begun old.journal.engine) { aborted = true } = fails.notifies.engine ∙ fails.fails.engine.engine in
       let begins = begun-stage old.journal.engine old.journal.engine.round in (
         refl,
         record {
@@ -527,7 +527,7 @@ module _ {D : Type 0} (state : D → DeviceState) where
   pub last-uncommitted : {T : Type 0} (r : Result T JournalError) (old mid new : JournalValue D) → HasSealed state old mid →
       IfErr r (λ e. (e ≡ Device) × WentWrong state mid new) → IfErr r (LastRefused state old new)
   last-uncommitted (Ok x) old mid new has wrong = tt
-  last-uncommitted (Err e) old mid new has wrong = subst (LastRefused state old new) (sym wrong.0) (FailedBehind mid has wrong.1)
+  last-uncommitted (Err e) old mid new has wrong = subst (LastRefused state old new) (sym wrong.0) (FailedAfter mid has wrong.1)
 
   -- if there is room for the seal, only lack of memory refuses it
   pub seal-refused : (old mid new : JournalValue D) (e : JournalError) → Went state old mid → HasRoomFor mid.journal →
@@ -541,7 +541,7 @@ module _ {D : Type 0} (state : D → DeviceState) where
       0 < length old.journal.front.running.handles → LastRefused state old new e →
       CloseRefused state old new.device new.journal.front.sealed new.journal.engine.committed e
   last-refused old new e running joined (FailedBefore wrong) = wrong-refused old new e running (refl, wrong)
-  last-refused old new e running joined (FailedBehind mid has wrong) = sealed-wrong old mid new e running has (refl, wrong)
+  last-refused old new e running joined (FailedAfter mid has wrong) = sealed-wrong old mid new e running has (refl, wrong)
   last-refused old new e running joined (NotMadeReady same) =
       NotReady running joined (ap (λ (v : JournalValue D). v.device) same) (ap (λ (v : JournalValue D). v.journal.front.sealed) same)
       (ap (λ (v : JournalValue D). v.journal.engine.committed) same)

@@ -8,7 +8,7 @@ use Rattle.log_epochs.specs.EngineWorld.Move.{CloseStep, CloseFault, GiveUp}
 use Rattle.log_epochs.specs.EngineWorld.Phase.{Closed, Running, Shut}
 use Rattle.log_epochs.specs.JournalWorld.{with_directs}
 use Rattle.log_epochs.specs.JournalWorld.Move.{Step, Below}
-use Rattle.log_epochs.proofs.Leading.{leads-behind}
+use Rattle.log_epochs.proofs.Leading.{leads-after}
 use Rattle.log_engine.specs.Close.{ClosesBy}
 use Rattle.group_commit.specs.Close.{ComesTo, world_with}
 
@@ -17,11 +17,11 @@ pub comes-nowhere : (j : Journal) (disk : Disk) → ComesTo j disk j disk Runnin
 comes-nowhere j disk = record { moves = []; leads = λ w epoch. refl }
 
 -- two sequences of moves make one
-pub comes-behind : (a b c : Journal) (d e f : Disk) (phase : Phase) → ComesTo a d b e Running → ComesTo b e c f phase → ComesTo a d c f phase
-comes-behind a b c d e f phase one two = record {
+pub comes-after : (a b c : Journal) (d e f : Disk) (phase : Phase) → ComesTo a d b e Running → ComesTo b e c f phase → ComesTo a d c f phase
+comes-after a b c d e f phase one two = record {
   moves = one.moves ++ two.moves;
   leads = λ w epoch.
-      leads-behind (world_with w epoch a d Running) (world_with w epoch b e Running) (world_with w epoch c f phase) one.moves two.moves
+      leads-after (world_with w epoch a d Running) (world_with w epoch b e Running) (world_with w epoch c f phase) one.moves two.moves
       (one.leads w epoch) (two.leads w epoch);
 }
 

@@ -31,8 +31,8 @@ pub no-rounds : (e : Engine) → MakesNoRound e e
 no-rounds e = record { released = refl; tail = refl; round = refl }
 
 -- two parts without a round make one
-pub rounds-behind : (one two three : Engine) → MakesNoRound one two → MakesNoRound two three → MakesNoRound one three
-rounds-behind one two three first second = record {
+pub rounds-after : (one two three : Engine) → MakesNoRound one two → MakesNoRound two three → MakesNoRound one three
+rounds-after one two three first second = record {
   released = second.released ∙ first.released;
   tail = second.tail ∙ first.tail;
   round = second.round ∙ first.round;
@@ -75,7 +75,7 @@ module _ {D : Type 0} (state : D → DeviceState) where
     went = room.went;
     idle = room.idle;
     first = room.first;
-    none = λ has. rounds-behind old.journal.engine mid.journal.engine new.journal.engine (room.none has)
-        (rounds-behind mid.journal.engine sealed.journal.engine new.journal.engine seal commit);
+    none = λ has. rounds-after old.journal.engine mid.journal.engine new.journal.engine (room.none has)
+        (rounds-after mid.journal.engine sealed.journal.engine new.journal.engine seal commit);
   }
   sealed-rounds (Err e) old mid sealed new room seal commit = tt

@@ -71,7 +71,7 @@ module _ {D : Type 0} (state : D → DeviceState) where
   refused-step old new e running busy (RingIsShort due none same) = absurd (busy due.idle)
   refused-step old new e running busy (MemoryIsShort due room same) = absurd (busy due.idle)
   refused-step old new e running busy (DeviceFailed fails counted) =
-      CommitFails (subst (λ (e : Engine). CommitFaults old.journal.engine (state old.device).disk e (state new.device).disk) (sym fails.tells.engine) fails.fails.engine)
+      CommitFails (subst (λ (e : Engine). CommitFaults old.journal.engine (state old.device).disk e (state new.device).disk) (sym fails.notifies.engine) fails.fails.engine)
 
   pub turn-calls : (turn : Turn) (old new : JournalValue D) → old.journal.engine.stage ≢ Idle → TurnDid state turn old new →
       MakesAtMostOneCall (state old.device) (state new.device) → CallsForTurns state old new
@@ -93,7 +93,7 @@ module _ {D : Type 0} (state : D → DeviceState) where
   refused_check-calls old new e running (CheckAborted is same stays counted) one = absurd (true≢false (sym is ∙ running))
   refused_check-calls old new e running (CheckFailed fails counted) one =
       one-call old new
-      (CheckpointFails (subst (λ (e : Engine). RoundFaults old.journal.engine (state old.device).disk e (state new.device).disk) (sym fails.tells.engine) fails.fails.engine))
+      (CheckpointFails (subst (λ (e : Engine). RoundFaults old.journal.engine (state old.device).disk e (state new.device).disk) (sym fails.notifies.engine) fails.fails.engine))
       one
 
   -- a seal makes no call

@@ -135,7 +135,7 @@ locked_journal old = record old { journal = record old.journal { front = locking
 -- does not come.)
 pub data LastRefused {D : Type 0} (state : D → DeviceState) (old new : JournalValue D) : JournalError → Type 0 where
   FailedBefore : WentWrong state old new → LastRefused state old new Device
-  FailedBehind : (mid : JournalValue D) → HasSealed state old mid → WentWrong state mid new → LastRefused state old new Device
+  FailedAfter : (mid : JournalValue D) → HasSealed state old mid → WentWrong state mid new → LastRefused state old new Device
   NotMadeReady : new ≡ old → LastRefused state old new Memory
   LeftUnsealed : (mid : JournalValue D) → Went state old mid → mid.journal.engine.committed ≡ length mid.journal.front.sealed → new ≡ locked_journal mid →
       LastRefused state old new Memory

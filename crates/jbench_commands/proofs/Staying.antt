@@ -14,8 +14,8 @@ use Rattle.script_client.specs.declared.performing.Ending.{Ending}
 use Rattle.script_client.specs.declared.performing.Ending.TheVariants.{Close, Stay}
 use Rattle.script_client.specs.Ended.{IsEnded, IsLeftClosed}
 use Rattle.script_client.specs.Told.{IsLedTo}
-use Rattle.jbench_commands.specs.Applying.{EndsWithNext, SaysBehind, SaysNext}
-use Rattle.jbench_commands.specs.Applying.SaysBehind.{SaysNothing, SaysNumber}
+use Rattle.jbench_commands.specs.Applying.{EndsWithNext, SaysAfter, SaysNext}
+use Rattle.jbench_commands.specs.Applying.SaysAfter.{SaysNothing, SaysNumber}
 
 -- whether a journal is closed
 abbrev IsToClose : Ending → Type 0
@@ -62,34 +62,34 @@ says-next {old} {new} {sealed} {before} {written} stays closed says = record {
 }
 
 -- a closed log is still closed after its line
-pub behind-closed : {D : Type 0} {state : D → DeviceState} {honest : D → Type 0} {ending : Ending} {device left : D} {applied end : Result (Unit {0}) Fault} {said written : Option (List ℕ)}
-    (sealed : History) → SaysBehind state honest ending device left applied end said written → ending ≡ Close → Stays (state device) (state left) → (honest left → honest device) →
+pub after-closed : {D : Type 0} {state : D → DeviceState} {honest : D → Type 0} {ending : Ending} {device left : D} {applied end : Result (Unit {0}) Fault} {said written : Option (List ℕ)}
+    (sealed : History) → SaysAfter state honest ending device left applied end said written → ending ≡ Close → Stays (state device) (state left) → (honest left → honest device) →
     OnOk applied (honest device → IsLeftClosed (state device) sealed) → OnOk end (honest left → IsLeftClosed (state left) sealed)
-behind-closed {D} {state} {honest} {ending} {device} {left} {applied} {end} {said} {written} sealed (SaysNothing why same is text) close stays before closed =
+after-closed {D} {state} {honest} {ending} {device} {left} {applied} {end} {said} {written} sealed (SaysNothing why same is text) close stays before closed =
     subst (λ (r : Result (Unit {0}) Fault). OnOk r (honest left → IsLeftClosed (state left) sealed)) (sym is)
     (on_ok_weaker applied (λ (f : honest device → IsLeftClosed (state device) sealed). λ now. closed-stays stays (f (before now))) closed)
-behind-closed {D} {state} {honest} {ending} {device} {left} {applied} {end} {said} {written} sealed (SaysNumber is ok says) close stays before closed =
+after-closed {D} {state} {honest} {ending} {device} {left} {applied} {end} {said} {written} sealed (SaysNumber is ok says) close stays before closed =
     on_ok_weaker end (λ _. λ now. closed-stays stays (was-ok applied ok closed (before now))) says
 
 -- the printed number is the next transaction's
-pub behind-next : {D : Type 0} {state : D → DeviceState} {honest : D → Type 0} {ending : Ending} {device left : D} {applied end : Result (Unit {0}) Fault} {said written : Option (List ℕ)}
-    (sealed : History) → SaysBehind state honest ending device left applied end said written → ending ≡ Close → Stays (state device) (state left) → (honest left → honest device) →
+pub after-next : {D : Type 0} {state : D → DeviceState} {honest : D → Type 0} {ending : Ending} {device left : D} {applied end : Result (Unit {0}) Fault} {said written : Option (List ℕ)}
+    (sealed : History) → SaysAfter state honest ending device left applied end said written → ending ≡ Close → Stays (state device) (state left) → (honest left → honest device) →
     OnOk applied (honest device → IsLeftClosed (state device) sealed) → OnOk end (honest left → EndsWithNext (state left) written)
-behind-next {D} {state} {honest} {ending} {device} {left} {applied} {end} {said} {written} sealed (SaysNothing why same is text) close stays before closed =
+after-next {D} {state} {honest} {ending} {device} {left} {applied} {end} {said} {written} sealed (SaysNothing why same is text) close stays before closed =
     subst (λ (r : Result (Unit {0}) Fault). OnOk r (honest left → EndsWithNext (state left) written)) (sym is) (none-said applied why close)
   where
     none-said : (r : Result (Unit {0}) Fault) → (ending ≡ Stay) ⊎ IsErr r → ending ≡ Close → OnOk r (honest left → EndsWithNext (state left) written)
     none-said (Err e) why close = tt
     none-said (Ok v) (inl stay) close = absurd (close-stay (sym close ∙ stay))
     none-said (Ok v) (inr err) close = absurd (false≢true err)
-behind-next {D} {state} {honest} {ending} {device} {left} {applied} {end} {said} {written} sealed (SaysNumber is ok says) close stays before closed =
+after-next {D} {state} {honest} {ending} {device} {left} {applied} {end} {said} {written} sealed (SaysNumber is ok says) close stays before closed =
     on_ok_weaker end (λ said_now. λ now. says-next stays (was-ok applied ok closed (before now)) (said_now now)) says
 
 -- a journal that stays is as it was left
-pub behind-stays : {D : Type 0} {state : D → DeviceState} {honest : D → Type 0} {ending : Ending} {device left : D} {applied end : Result (Unit {0}) Fault} {said written : Option (List ℕ)}
+pub after-stays : {D : Type 0} {state : D → DeviceState} {honest : D → Type 0} {ending : Ending} {device left : D} {applied end : Result (Unit {0}) Fault} {said written : Option (List ℕ)}
     {F : Shape → Disk → Type 0} {operations : List Operation} {sealed : History} {shown : Option ℕ} →
-    SaysBehind state honest ending device left applied end said written → ending ≡ Stay → IsLedTo F operations (state device) sealed shown → IsLedTo F operations (state left) sealed shown
-behind-stays {D} {state} {honest} {ending} {device} {left} {applied} {end} {said} {written} {F} {operations} {sealed} {shown} (SaysNothing why same is text) stay to =
+    SaysAfter state honest ending device left applied end said written → ending ≡ Stay → IsLedTo F operations (state device) sealed shown → IsLedTo F operations (state left) sealed shown
+after-stays {D} {state} {honest} {ending} {device} {left} {applied} {end} {said} {written} {F} {operations} {sealed} {shown} (SaysNothing why same is text) stay to =
     subst (λ (d : _). IsLedTo F operations (state d) sealed shown) (sym same) to
-behind-stays {D} {state} {honest} {ending} {device} {left} {applied} {end} {said} {written} {F} {operations} {sealed} {shown} (SaysNumber is ok says) stay to =
+after-stays {D} {state} {honest} {ending} {device} {left} {applied} {end} {said} {written} {F} {operations} {sealed} {shown} (SaysNumber is ok says) stay to =
     absurd (close-stay (sym is ∙ stay))

@@ -15,15 +15,15 @@ use Rattle.script_client.specs.declared.performing.Ending.{Ending}
 use Rattle.jbench_commands.specs.declared.apply.Unapplied.{Unapplied}
 use Rattle.jbench_commands.specs.declared.apply.Unapplied.TheVariants.{Unbegun, Undone, Unopened}
 use Rattle.jbench_commands.specs.Applying.{AreForDevice}
-use Rattle.jbench_commands.specs.Unapplied.{IsUnapplied, IsUnappliedBehind}
+use Rattle.jbench_commands.specs.Unapplied.{IsUnapplied, IsUnappliedAfter}
 
 -- the device was only read
 pub only-read : (old new : DeviceState) → Stays old new → EachMoment (IsMoment old.shape old.disk) old new
 only-read old new stays = each-stays (IsMoment old.shape old.disk) old new stays (Unread refl)
 
 -- an opening between reads
-pub behind-reads : (s t u v : DeviceState) → Stays s t → EachMoment (IsMoment t.shape t.disk) t u → Stays u v → EachMoment (IsMoment s.shape s.disk) s v
-behind-reads s t u v first each last =
+pub after-reads : (s t u v : DeviceState) → Stays s t → EachMoment (IsMoment t.shape t.disk) t u → Stays u v → EachMoment (IsMoment s.shape s.disk) s v
+after-reads s t u v first each last =
     let P : Disk → Type 0 = IsMoment s.shape s.disk in
     let weaker : (d : Disk) → IsMoment t.shape t.disk d → P d = λ d is.
     subst (λ (sh : Shape). IsMoment sh s.disk d) first.shape (subst (λ (dk : Disk). IsMoment t.shape dk d) first.disk is) in
@@ -36,18 +36,18 @@ behind-reads s t u v first each last =
     each-joins P s u v moved (each-stays P u v last moved.now)
 
 -- what an opened log leaves is left on the device that it was opened on
-pub unapplied-behind : {D : Type 0} (state : D → DeviceState) (honest : D → Type 0) (device : D) (known : Option (List ℕ)) (opened : OpenedValue D) (operations : List Operation) (after : AfterRefusal) (ending : Ending) (left : Unapplied D)
+pub unapplied-after : {D : Type 0} (state : D → DeviceState) (honest : D → Type 0) (device : D) (known : Option (List ℕ)) (opened : OpenedValue D) (operations : List Operation) (after : AfterRefusal) (ending : Ending) (left : Unapplied D)
     → (honest opened.device → IsOpening (state device).shape (state device).disk (state opened.device).disk opened.superblock opened.next)
     → AreForDevice known (state device) (honest opened.device) operations
-    → IsUnappliedBehind state honest opened operations after ending left → IsUnapplied state honest device known after ending left
-unapplied-behind state honest device known opened operations after ending (Unopened d) opens for_device is = absurd is
-unapplied-behind {D} state honest device known opened operations after ending (Unbegun d) opens for_device is = record {
+    → IsUnappliedAfter state honest opened operations after ending left → IsUnapplied state honest device known after ending left
+unapplied-after state honest device known opened operations after ending (Unopened d) opens for_device is = absurd is
+unapplied-after {D} state honest device known opened operations after ending (Unbegun d) opens for_device is = record {
   superblock = opened.superblock;
   next = opened.next;
   opens = λ trust.
       subst (λ (x : D). IsOpening (state device).shape (state device).disk (state x).disk opened.superblock opened.next) (sym is) (opens (subst honest is trust));
 }
-unapplied-behind state honest device known opened operations after ending (Undone left) opens for_device is = record {
+unapplied-after state honest device known opened operations after ending (Undone left) opens for_device is = record {
   opened = opened;
   opens = opens;
   operations = operations;

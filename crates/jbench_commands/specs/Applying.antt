@@ -57,10 +57,10 @@ abbrev pub after_told : (keep_going make_room : Bool) → AfterRefusal
 after_told keep_going make_room = record { makes_room = make_room; goes_on = keep_going }
 
 -- The line after the operations: none if the journal stays or they ended early; else the next number, from the device that the close left.
-pub data SaysBehind {D : Type 0} (state : D → DeviceState) (honest : D → Type 0) (ending : Ending) (device left : D) (applied end : Result (Unit {0}) Fault)
+pub data SaysAfter {D : Type 0} (state : D → DeviceState) (honest : D → Type 0) (ending : Ending) (device left : D) (applied end : Result (Unit {0}) Fault)
     (said written : Option (List ℕ)) : Type 0 where
-  SaysNothing : (ending ≡ Stay) ⊎ IsErr applied → left ≡ device → end ≡ applied → written ≡ said → SaysBehind state honest ending device left applied end said written
-  SaysNumber : ending ≡ Close → IsOk applied → OnOk end (honest left → SaysNext (state device) said written) → SaysBehind state honest ending device left applied end said written
+  SaysNothing : (ending ≡ Stay) ⊎ IsErr applied → left ≡ device → end ≡ applied → written ≡ said → SaysAfter state honest ending device left applied end said written
+  SaysNumber : ending ≡ Close → IsOk applied → OnOk end (honest left → SaysNext (state device) said written) → SaysAfter state honest ending device left applied end said written
 
 -- operations were applied to a journal on an opened log, with their lines; since then the device was only read
 pub record IsOperated {D : Type 0} (state : D → DeviceState) (honest : D → Type 0) (opened : OpenedValue D) (operations : List Operation) (after : AfterRefusal) (ending : Ending)
@@ -70,11 +70,11 @@ pub record IsOperated {D : Type 0} (state : D → DeviceState) (honest : D → T
   pub said : Option (List ℕ)
   pub does : HasApplied state honest opened operations after ending device sealed shown applied before said
   pub stays : Stays (state device) (state left)
-  pub behind : SaysBehind state honest ending device left applied end said written
+  pub behind : SaysAfter state honest ending device left applied end said written
 
 -- The opening's line was written, all was done after it, and correct reads now mean correct reads at the opening. If the journal was
 -- closed, the last line has the number that the next opening gives the next transaction.
-pub record IsDoneBehind {D : Type 0} (state : D → DeviceState) (honest : D → Type 0) (opened : OpenedValue D) (operations : List Operation) (after : AfterRefusal) (ending : Ending)
+pub record IsDoneAfter {D : Type 0} (state : D → DeviceState) (honest : D → Type 0) (opened : OpenedValue D) (operations : List Operation) (after : AfterRefusal) (ending : Ending)
     (left : D) (sealed : History) (shown : Option ℕ) (before : Option (List ℕ)) : Type 0 where
   pub begun : Option (List ℕ)
   pub opening : Appends before begun (opened_line opened.clean opened.ends_at opened.transactions opened.next)
@@ -101,4 +101,4 @@ pub record IsDoneTo {D : Type 0} (state : D → DeviceState) (honest : D → Typ
   pub for_device : AreForDevice known (state device) (honest opened.device) operations
   pub before : Option (List ℕ)
   pub kept : Keeps contents before
-  pub done : IsDoneBehind state honest opened operations after ending left sealed shown before
+  pub done : IsDoneAfter state honest opened operations after ending left sealed shown before

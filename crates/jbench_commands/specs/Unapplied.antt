@@ -28,10 +28,10 @@ pub record IsUndone {D : Type 0} (state : D → DeviceState) (honest : D → Typ
   pub honest_before : honest left → honest opened.device
 
 -- what an opened log leaves: its device unchanged, or what such operations left
-abbrev pub IsUnappliedBehind : {D : Type 0} → (state : D → DeviceState) → (honest : D → Type 0) → OpenedValue D → List Operation → AfterRefusal → Ending → Unapplied D → Type 0
-IsUnappliedBehind state honest opened operations after ending (Unopened device) = ⊥
-IsUnappliedBehind state honest opened operations after ending (Unbegun device) = device ≡ opened.device
-IsUnappliedBehind state honest opened operations after ending (Undone left) =
+abbrev pub IsUnappliedAfter : {D : Type 0} → (state : D → DeviceState) → (honest : D → Type 0) → OpenedValue D → List Operation → AfterRefusal → Ending → Unapplied D → Type 0
+IsUnappliedAfter state honest opened operations after ending (Unopened device) = ⊥
+IsUnappliedAfter state honest opened operations after ending (Unbegun device) = device ≡ opened.device
+IsUnappliedAfter state honest opened operations after ending (Undone left) =
     IsUndone state honest opened operations after ending left.device left.sealed.items left.acknowledged
 
 -- this device was opened, and then such operations of a script for it were applied

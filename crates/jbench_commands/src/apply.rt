@@ -11,8 +11,8 @@ ghost use Rattle.block_device.specs.State.{Stays};
 ghost use Rattle.script_client.specs.declared.performing.Ending.TheVariants.{Close, Stay};
 ghost use Rattle.script_client.specs.Ended.{IsEnded, IsLeftClosed};
 ghost use Rattle.script_client.specs.Told.{IsLedTo};
-ghost use Rattle.jbench_commands.specs.Unapplied.{IsUnapplied, IsUnappliedBehind};
-ghost use Rattle.jbench_commands.specs.Applying.{AreForDevice, AreOf, EndsWithNext, IsDoneBehind, IsDoneTo, IsOperated, SaysBehind, SaysNext, after_told, closed_line, ending_told, lines_told};
+ghost use Rattle.jbench_commands.specs.Unapplied.{IsUnapplied, IsUnappliedAfter};
+ghost use Rattle.jbench_commands.specs.Applying.{AreForDevice, AreOf, EndsWithNext, IsDoneAfter, IsDoneTo, IsOperated, SaysAfter, SaysNext, after_told, closed_line, ending_told, lines_told};
 
 use crate::faults::of_run;
 use crate::objects::Objects;
@@ -175,8 +175,8 @@ fn apply_script<D: Device + Drop, W: Write + Drop>(
 ) -> Result<Performed<D>, (Unapplied<D>, Fault)>
     ensures closed { words.now.stay ≡ false → IfOk result (λ left. D.honest left.device →
         IsLeftClosed (D.state left.device) left.sealed.items) }
-    ensures left { IfErr result (λ e. IsUnappliedBehind D.state D.honest opened prepared.operations.items (after_told words.now.keep_going words.now.make_room) (ending_told words.now.stay) e.0) }
-    ensures done { IfOk result (λ left. IsDoneBehind D.state D.honest opened prepared.operations.items (after_told words.now.keep_going words.now.make_room) (ending_told words.now.stay)
+    ensures left { IfErr result (λ e. IsUnappliedAfter D.state D.honest opened prepared.operations.items (after_told words.now.keep_going words.now.make_room) (ending_told words.now.stay) e.0) }
+    ensures done { IfOk result (λ left. IsDoneAfter D.state D.honest opened prepared.operations.items (after_told words.now.keep_going words.now.make_room) (ending_told words.now.stay)
         left.device left.sealed.items left.acknowledged (line_writer_contents W.contents prepared.out)) }
 {
     let Prepared {
@@ -320,7 +320,7 @@ fn say_end<D: Device + Drop, W: Write>(
     applied: Applied<D>,
     out: &mut W,
 ) -> Applied<D>
-    ensures behind { SaysBehind D.state D.honest ending applied.left.device result.left.device applied.end result.end (W.contents out.old) (W.contents out.new) }
+    ensures after { SaysAfter D.state D.honest ending applied.left.device result.left.device applied.end result.end (W.contents out.old) (W.contents out.new) }
     ensures sealed { result.left.sealed ≡ applied.left.sealed }
     ensures acknowledged { result.left.acknowledged ≡ applied.left.acknowledged }
     ensures device { OnlyReads D.state D.honest applied.left.device result.left.device }
@@ -337,7 +337,7 @@ fn say_close<D: Device + Drop, W: Write>(
     applied: Applied<D>,
     out: &mut W,
 ) -> Applied<D>
-    ensures behind { SaysBehind D.state D.honest Close applied.left.device result.left.device applied.end result.end (W.contents out.old) (W.contents out.new) }
+    ensures after { SaysAfter D.state D.honest Close applied.left.device result.left.device applied.end result.end (W.contents out.old) (W.contents out.new) }
     ensures sealed { result.left.sealed ≡ applied.left.sealed }
     ensures acknowledged { result.left.acknowledged ≡ applied.left.acknowledged }
     ensures device { OnlyReads D.state D.honest applied.left.device result.left.device }

@@ -41,7 +41,7 @@ pub fn check<R: Read + Drop, W: Write + Drop, E: Write + Drop>(
     match read_text(alloc, script) {
         Ok(text) => {
             let read = read_either(alloc, &text);
-            tell(read, out, &mut err)
+            print(read, out, &mut err)
         }
         Err(fault) => fault::refuse(&mut err, path, &fault),
     }
@@ -81,7 +81,7 @@ fn read_clients(alloc: Global, text: &[u8]) -> Result<Good, ScriptError>
 }
 
 /// Prints the result of reading a script.
-fn tell<W: Write + Drop, E: Write>(
+fn print<W: Write + Drop, E: Write>(
     read: Result<Good, ScriptError>,
     out: W,
     err: &mut E,

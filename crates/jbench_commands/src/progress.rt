@@ -1,5 +1,5 @@
 //! The line that shows a command's progress.
-use jbench_words::watch::{Step, Watch};
+use jbench_words::watch::{Watch, WatchStep};
 use journal_model::Area;
 use std::io::{IsTerminal, Write};
 use std::time::{Duration, Instant};
@@ -139,14 +139,14 @@ impl<'a> Progress<'a> {
 }
 
 impl Watch for Progress<'_> {
-    fn goes_on(&mut self, step: Step) {
+    fn goes_on(&mut self, step: WatchStep) {
         match step {
-            Step::Reads { area, n, blocks } => self.reads(area, n, blocks),
-            Step::Writes { area } => self.writes(area),
-            Step::Fills { area, at, bytes } => self.fills(area, at, bytes),
-            Step::StopsAt { write, writes } => self.stops_at(write, writes),
-            Step::FailsAt { call, calls } => self.fails_at(call, calls),
-            Step::Second {
+            WatchStep::Reads { area, n, blocks } => self.reads(area, n, blocks),
+            WatchStep::Writes { area } => self.writes(area),
+            WatchStep::Fills { area, at, bytes } => self.fills(area, at, bytes),
+            WatchStep::StopsAt { write, writes } => self.stops_at(write, writes),
+            WatchStep::FailsAt { call, calls } => self.fails_at(call, calls),
+            WatchStep::Second {
                 second,
                 transactions,
             } => self.second(second, transactions),

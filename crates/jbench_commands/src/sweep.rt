@@ -110,7 +110,7 @@ fn sweep_stops<W: Write>(
 {
     match script_sweep::sweep(alloc, &ThisJournal, script, watch, err) {
         Ok(counts) => {
-            tell(counts, json, out)?;
+            print(counts, json, out)?;
             Ok(counts.not_right.count())
         }
         Err(fault) => Err(of_run(fault)),
@@ -131,7 +131,7 @@ fn sweep_failures<W: Write>(
 {
     match script_sweep::sweep_failures(alloc, &ThisJournal, script, watch, err) {
         Ok(counts) => {
-            tell_failures(counts, json, out)?;
+            print_failures(counts, json, out)?;
             Ok(counts.not_right.count())
         }
         Err(fault) => Err(of_run(fault)),
@@ -139,7 +139,7 @@ fn sweep_failures<W: Write>(
 }
 
 /// Prints the counts of stops, or the front of an object with them.
-fn tell<W: Write>(counts: Counts, json: bool, out: &mut W) -> io::Result<()> {
+fn print<W: Write>(counts: Counts, json: bool, out: &mut W) -> io::Result<()> {
     let Counts {
         writes,
         images,
@@ -161,7 +161,7 @@ fn tell<W: Write>(counts: Counts, json: bool, out: &mut W) -> io::Result<()> {
 }
 
 /// Prints the counts of failing calls, or that part of an object.
-fn tell_failures<W: Write>(counts: FailureCounts, json: bool, out: &mut W) -> io::Result<()> {
+fn print_failures<W: Write>(counts: FailureCounts, json: bool, out: &mut W) -> io::Result<()> {
     let (calls, wrong) = (counts.calls, counts.not_right.count());
     if json {
         write!(out, ",\"fail\":{{\"calls\":{calls},\"false\":{wrong}}}")

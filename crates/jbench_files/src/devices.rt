@@ -169,7 +169,7 @@ pub fn device_of<C: Contents>(
     ensures { IfOk result (IsOver files.log.file.file files.home.file.file) }
 {
     let (log, home) = files.into_files();
-    device_over(alloc, contents, ReadyLog::settled(log)?, home)
+    device_over(alloc, contents, ReadyLog::made_durable(log)?, home)
 }
 
 /// A device over a log's two files, to read. Nothing is written.

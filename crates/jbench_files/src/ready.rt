@@ -4,7 +4,7 @@ ghost use Rattle.std.specs.Prelude.{◌≡◌, IfOk};
 use crate::locked::LockedFile;
 use crate::pairs::LogFile;
 use crate::room::{AreaFile, Room, clear};
-use file_device::{ReadLock, WriteLock, settle};
+use file_device::{ReadLock, WriteLock, make_durable};
 use jbench_words::watch::Watch;
 use journal_model::Area;
 use journal_model::layout::MAGIC;
@@ -21,7 +21,7 @@ const START_PLACE: u64 = 0x1c;
 const MOST_BYTES: u64 = 4096;
 
 /// A log's file from which a device may be made. With a write lock, what an opening relies on is on the disk, not only in the system's
-/// memory: only `settled`, `with_superblock` and `cleared` make such a log.
+/// memory: only `made_durable`, `with_superblock` and `cleared` make such a log.
 #[derive(Drop)]
 pub(crate) struct ReadyLog {
     file: File,
@@ -34,11 +34,11 @@ impl ReadyLog {
     /// # Errors
     ///
     /// The log cannot be read, written or synced.
-    pub(crate) fn settled(log: LogFile<WriteLock>) -> io::Result<ReadyLog>
+    pub(crate) fn made_durable(log: LogFile<WriteLock>) -> io::Result<ReadyLog>
         ensures { IfOk result (λ ready. ready.file ≡ log.file) }
     {
         let file = log.into_file();
-        settle(&file, relied_on(&file)?)?;
+        make_durable(&file, relied_on(&file)?)?;
         Ok(ReadyLog { file })
     }
 
@@ -51,7 +51,7 @@ impl ReadyLog {
         ensures { IfOk result (λ ready. ready.file ≡ log.file.file) }
     {
         let file = log.into_file();
-        settle(&file, relied_on(&file)?.min(MOST_BYTES))?;
+        make_durable(&file, relied_on(&file)?.min(MOST_BYTES))?;
         Ok(ReadyLog { file })
     }
 

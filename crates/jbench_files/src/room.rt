@@ -1,5 +1,5 @@
 //! Reserves disk space for a file before its old content is lost.
-use jbench_words::watch::{Step, Watch};
+use jbench_words::watch::{Watch, WatchStep};
 use journal_model::Area;
 use std::alloc::Global;
 use std::fs::File;
@@ -72,7 +72,7 @@ fn fill_up(
     for piece in 0..pieces {
         let at = first.saturating_add(piece.saturating_mul(PIECE as u64));
         let count = bytes.saturating_sub(at).min(PIECE as u64) as usize;
-        watch.goes_on(Step::Fills { area, at, bytes });
+        watch.goes_on(WatchStep::Fills { area, at, bytes });
         buffer.clear();
         buffer.resize(count, 0)?;
         read_held(of.file, at, held, &mut buffer)?;
@@ -110,7 +110,7 @@ fn write_zeros(
     let mut zeros = vec![in alloc; 0; PIECE]?;
     for piece in 0..bytes.div_ceil(PIECE as u64) {
         let at = piece.saturating_mul(PIECE as u64);
-        watch.goes_on(Step::Fills { area, at, bytes });
+        watch.goes_on(WatchStep::Fills { area, at, bytes });
         zeros.truncate(bytes.saturating_sub(at).min(PIECE as u64) as usize);
         of.file.write_all_at(&zeros, at)?;
     }

@@ -9,7 +9,7 @@ use crate::fields::{Failed, Field, Value, fields_of};
 use crate::logs::refuse_fault;
 use crate::objects::{write_lines, write_refusal};
 use crate::reasons::SUPER_BYTES;
-use crate::ways_out::{Standing, refusal_of, standing_of, tell, tell_ways_out};
+use crate::ways_out::{Standing, print, print_ways_out, refusal_of, standing_of};
 use block_device::{Device, read_block};
 use jbench_words::fault::{Fault, Status};
 use jbench_words::words::ShowWords;
@@ -106,7 +106,7 @@ impl<'a> Shown<'a> {
         let refusal = refusal_of(bytes, blocks);
         let mut ways_out = Vec::new(alloc);
         if let Some(e) = refusal {
-            tell_ways_out(bytes, blocks, standing, e, &mut ways_out)?;
+            print_ways_out(bytes, blocks, standing, e, &mut ways_out)?;
         }
         Ok(Shown {
             blocks,
@@ -199,7 +199,7 @@ fn show_lines(shown: &Shown<'_>, out: &mut impl Write) -> io::Result<()> {
     for field in &shown.fields {
         show_field(field, out)?;
     }
-    tell(shown.refusal, out)?;
+    print(shown.refusal, out)?;
     out.write_all(&shown.ways_out)
 }
 

@@ -2,7 +2,7 @@
 ghost use Rattle.std.specs.Prelude.{◌≡◌, length, OnOk, OnErr};
 
 use block_device::{Device, DeviceFault};
-use jbench_words::watch::{Step, Watch};
+use jbench_words::watch::{Watch, WatchStep};
 use journal_model::Area;
 
 /// A device that reports each read and write before it passes the call on.
@@ -39,12 +39,12 @@ impl<D: Device, W: Watch> Device for Watched<D, W> {
 
     fn read(&mut self, area: Area, n: u64, into: &mut [u8]) -> Result<(), DeviceFault> {
         let blocks = self.device.blocks(area);
-        self.watch.goes_on(Step::Reads { area, n, blocks });
+        self.watch.goes_on(WatchStep::Reads { area, n, blocks });
         self.device.read(area, n, into)
     }
 
     fn write(&mut self, area: Area, n: u64, bytes: &[u8]) -> Result<(), DeviceFault> {
-        self.watch.goes_on(Step::Writes { area });
+        self.watch.goes_on(WatchStep::Writes { area });
         self.device.write(area, n, bytes)
     }
 

@@ -95,7 +95,7 @@ pub(crate) fn refusal_of(bytes: &[u8], blocks: u64) -> Option<JournalError>
 }
 
 /// Says whether an opening accepts a superblock that this refusal, if any, is for.
-pub(crate) fn tell(refusal: Option<JournalError>, out: &mut impl Write) -> io::Result<()> {
+pub(crate) fn print(refusal: Option<JournalError>, out: &mut impl Write) -> io::Result<()> {
     match refusal {
         None => writeln!(out, "an opening takes this superblock"),
         Some(JournalError::SequenceEnd) => writeln!(
@@ -112,7 +112,7 @@ pub(crate) fn tell(refusal: Option<JournalError>, out: &mut impl Write) -> io::R
 
 /// Says what an owner can do about this refusal of these superblock bytes. `standing` is in the superblock's place; the log has `blocks`
 /// blocks.
-pub(crate) fn tell_ways_out(
+pub(crate) fn print_ways_out(
     bytes: &[u8],
     blocks: u64,
     standing: Standing,
@@ -122,13 +122,13 @@ pub(crate) fn tell_ways_out(
     requires { 1024 ≤ length bytes.now }
 {
     match refusal {
-        JournalError::SequenceEnd => tell_end(&Super::fields(bytes), out),
-        e => tell_way_out(bytes, blocks, standing, e, out),
+        JournalError::SequenceEnd => print_end(&Super::fields(bytes), out),
+        e => print_way_out(bytes, blocks, standing, e, out),
     }
 }
 
 /// Says what an owner can do about a log that has no number left for another transaction.
-fn tell_end(fields: &Super, out: &mut impl Write) -> io::Result<()> {
+fn print_end(fields: &Super, out: &mut impl Write) -> io::Result<()> {
     if fields.s_start == 0 {
         writeln!(
             out,
@@ -143,7 +143,7 @@ fn tell_end(fields: &Super, out: &mut impl Write) -> io::Result<()> {
 }
 
 /// Says what the owner can do about this refusal.
-fn tell_way_out(
+fn print_way_out(
     bytes: &[u8],
     blocks: u64,
     standing: Standing,
@@ -153,7 +153,7 @@ fn tell_way_out(
     requires { 1024 ≤ length bytes.now }
 {
     match standing {
-        Standing::Superblock => tell_of_superblock(bytes, blocks, e, out),
+        Standing::Superblock => print_superblock(bytes, blocks, e, out),
         Standing::Volume => writeln!(
             out,
             "  a file system of ext2, ext3 or ext4 stands here, and its log is inode 8 of it: debugfs dumps that into a file"
@@ -170,7 +170,7 @@ fn tell_way_out(
 }
 
 /// Says what the owner can do about this refusal of a superblock with the magic.
-fn tell_of_superblock(
+fn print_superblock(
     bytes: &[u8],
     blocks: u64,
     e: JournalError,
@@ -186,9 +186,9 @@ fn tell_of_superblock(
         ),
         JournalError::BadLength => {
             say_length(&fields, blocks, out)?;
-            tell_features(&fields, out)
+            print_features(&fields, out)
         }
-        _ => tell_features(&fields, out),
+        _ => print_features(&fields, out),
     }
 }
 
@@ -206,7 +206,7 @@ pub(crate) fn say_length(fields: &Super, blocks: u64, out: &mut impl Write) -> i
 }
 
 /// Says for each feature that prevents an opening what its owner does about it.
-fn tell_features(fields: &Super, out: &mut impl Write) -> io::Result<()> {
+fn print_features(fields: &Super, out: &mut impl Write) -> io::Result<()> {
     write_ways_out(out, fields.s_feature_compat, 0, COMPATIBLE)?;
     let taken = REVOKE | WIDE_NUMBERS;
     write_ways_out(out, fields.s_feature_incompat, taken, INCOMPATIBLE)?;

@@ -11,7 +11,7 @@ use jbench_words::words::ServeWords;
 use journal_model::JournalError;
 use nbd_server::{Done, Export, Output, Served};
 use recovery::Opened;
-use shared_journal::{LaidJournal, Unrecorded, lay};
+use shared_journal::{UnnamedJournal, Unrecorded, create};
 use std::alloc::Global;
 use std::io;
 use std::io::{Read, Write};
@@ -78,8 +78,8 @@ fn serve_opened<
 ) -> io::Result<Option<D>>
     ensures { IfOk result (λ done. IfSome done (λ device. D.honest device → IsLeftClosed (D.state device))) }
 {
-    let laid: LaidJournal<D> = match lay(alloc, opened) {
-        Ok(laid) => laid,
+    let unnamed: UnnamedJournal<D> = match create(alloc, opened) {
+        Ok(unnamed) => unnamed,
         Err((_opened, e)) => {
             fault::refuse(err, words.paths.log, &Fault::Refused(e))?;
             return Ok(None);
@@ -90,7 +90,7 @@ fn serve_opened<
         read_only: words.read_only,
     };
     let out = Output::new(out);
-    match nbd_server::serve(threads, alloc, laid, export, 0, input, &out) {
+    match nbd_server::serve(threads, alloc, unnamed, export, 0, input, &out) {
         Ok(served) => match device_left(served) {
             Ok((done, device)) => say_done(done, device, err),
             Err(e) => {

@@ -3,7 +3,7 @@ use journal_model::Area;
 
 /// A step that a command makes or has made.
 #[derive(Clone, Copy)]
-pub enum Step {
+pub enum WatchStep {
     /// Block `n` of an area of `blocks` blocks will be read.
     Reads { area: Area, n: u64, blocks: u64 },
     /// A block of this area will be written.
@@ -21,7 +21,7 @@ pub enum Step {
 /// Learns a command's progress; no answer of a command depends on it.
 pub trait Watch {
     /// The command is at this step.
-    fn goes_on(&mut self, step: Step);
+    fn goes_on(&mut self, step: WatchStep);
 
     /// The command has made its last step.
     fn ends(&mut self);
@@ -32,7 +32,7 @@ pub trait Watch {
 pub struct Unwatched;
 
 impl Watch for Unwatched {
-    fn goes_on(&mut self, _step: Step) {}
+    fn goes_on(&mut self, _step: WatchStep) {}
 
     fn ends(&mut self) {}
 }

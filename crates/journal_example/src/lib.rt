@@ -49,7 +49,7 @@ pub fn work<D: Device + Drop>(alloc: Global, device: D) -> Result<Done> {
 }
 
 /// Opens or creates a file of this length in bytes, and locks it against other programs that lock it. It makes the length durable, since a
-/// device never changes it. For an existing log, `file_device::settle` would follow.
+/// device never changes it. For an existing log, `file_device::make_durable` would follow.
 fn file_of(rt: &HostRuntime, path: &str, bytes: u64) -> Result<File> {
     let file = OpenOptions::new()
         .read(true)

@@ -300,7 +300,7 @@ impl<R: Record> Front<R> {
     /// # Errors
     ///
     /// `Memory`: nothing changes. After `room_for_read` one step takes no memory.
-    pub fn note_read(
+    pub fn register_read(
         &mut self,
         handle: &Handle,
         block: BlockNo,
@@ -314,7 +314,7 @@ impl<R: Record> Front<R> {
         self.running.reserve()?;
         let op = Op::Read(bytes);
         let handle = handle.number();
-        self.running.note(Step { handle, block, op });
+        self.running.register(Step { handle, block, op });
         Ok(())
     }
 

@@ -45,7 +45,7 @@ impl KnownTransaction {
     }
 
     /// Adds a step, which the caller keeps.
-    pub(crate) fn note(&mut self, step: &Step)
+    pub(crate) fn register(&mut self, step: &Step)
         ensures { self.new ≡ record self.old { steps = self.old.steps ++ step.now ∷ [] } }
     {
         self.steps.push(step);

@@ -36,7 +36,7 @@ pub trait Record: Drop {
         ensures err { IfErr result (λ e. e ≡ Memory) };
 
     /// Adds a transaction: `known` is its value for contracts, `kept` the same as data, if the record keeps data.
-    fn note(&mut self, known: &KnownTransaction, kept: Sealed)
+    fn register(&mut self, known: &KnownTransaction, kept: Sealed)
         requires room { has_room self.old }
         requires data { KEEPS ≡ true → kept ≡ known.now }
         ensures { transactions self.new ≡ transactions self.old ++ known.now ∷ [] };
@@ -63,7 +63,7 @@ impl Record for Vec<Sealed> {
         Ok(())
     }
 
-    fn note(&mut self, _known: &KnownTransaction, kept: Sealed) {
+    fn register(&mut self, _known: &KnownTransaction, kept: Sealed) {
         self.push_reserved(kept);
     }
 }
@@ -96,7 +96,7 @@ impl Record for Unrecorded {
         Ok(())
     }
 
-    fn note(&mut self, known: &KnownTransaction, kept: Sealed) {
+    fn register(&mut self, known: &KnownTransaction, kept: Sealed) {
         self.transactions.push(known);
         drop(kept);
     }

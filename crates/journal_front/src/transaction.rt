@@ -210,7 +210,7 @@ impl<R: Record> Transaction<R> {
         }
     }
 
-    /// Makes room for one `note`.
+    /// Makes room for one `register`.
     ///
     /// # Errors
     ///
@@ -225,19 +225,19 @@ impl<R: Record> Transaction<R> {
     }
 
     /// Adds a step that touches no block; `reserve` made room for it.
-    pub fn note(&mut self, step: Step)
+    pub fn register(&mut self, step: Step)
         requires room { self.old.reserved ≡ true }
         requires untouched { entry_of step.op ≡ None }
         ensures { self.new ≡ noting self.old step }
     {
         self.reserved = false;
-        self.known.note(&step);
+        self.known.register(&step);
         keep_step::<R>(&mut self.steps, step);
     }
 
     /// Adds a step that leaves this entry, and is paid for. The list of steps grows first, so that nothing changes if the entry has no
     /// room.
-    fn note_touch(&mut self, step: Step, entry: Entry) -> Result<(), JournalError>
+    fn register_touch(&mut self, step: Step, entry: Entry) -> Result<(), JournalError>
         requires { entry_of step.op ≡ Some entry }
         ensures ok { OnOk result (self.new ≡ noting self.old step) }
         ensures err { IfErr result (λ e. (e ≡ Memory) × (self.new ≡ self.old)) }
@@ -245,7 +245,7 @@ impl<R: Record> Transaction<R> {
         room_for_step::<R>(&mut self.steps)?;
         self.versions.write(step.block, entry)?;
         self.reserved = false;
-        self.known.note(&step);
+        self.known.register(&step);
         keep_step::<R>(&mut self.steps, step);
         Ok(())
     }
@@ -281,7 +281,7 @@ impl<R: Record> Transaction<R> {
         let touch = self.paid_touch(left, block)?;
         let copy = Block::copy_of(self.alloc, bytes)?;
         let op = Op::Write(copy.try_clone()?);
-        self.note_touch(Step { handle, block, op }, Entry::Copy(copy))?;
+        self.register_touch(Step { handle, block, op }, Entry::Copy(copy))?;
         Ok(touch)
     }
 
@@ -303,7 +303,7 @@ impl<R: Record> Transaction<R> {
     {
         let touch = self.paid_touch(left, block)?;
         let op = Op::Revoke;
-        self.note_touch(Step { handle, block, op }, Entry::Revoke)?;
+        self.register_touch(Step { handle, block, op }, Entry::Revoke)?;
         Ok(touch)
     }
 
@@ -348,7 +348,7 @@ impl<R: Record> Transaction<R> {
         self.locked = false;
         self.reserved = false;
         let steps = Items::from_vec(steps);
-        into.note(
+        into.register(
             &known,
             Sealed {
                 tid,

@@ -5,7 +5,7 @@ use commit_times::bench;
 use format_rows::RowError;
 use format_rows::words::cut;
 use jbench_words::fault::Status;
-use jbench_words::watch::{Step, Watch};
+use jbench_words::watch::{Watch, WatchStep};
 use jbench_words::words::{BenchWords, Words, parse};
 use run_rows::texts::numbers_in;
 use std::alloc::Global;
@@ -44,8 +44,8 @@ struct Seconds<'a> {
 }
 
 impl Watch for Seconds<'_> {
-    fn goes_on(&mut self, step: Step) {
-        if let Step::Second {
+    fn goes_on(&mut self, step: WatchStep) {
+        if let WatchStep::Second {
             second,
             transactions,
         } = step

@@ -35,7 +35,7 @@ impl fmt::Display for Misplaced {
 }
 
 /// The state after an operation; `None` if the operation needs another state.
-fn state_behind(state: State, operation: &Operation) -> Option<State> {
+fn state_after(state: State, operation: &Operation) -> Option<State> {
     match (operation, state) {
         (Operation::Start(..), State::Unused | State::Stopped) => Some(State::Open),
         (Operation::Write(..) | Operation::Revoke(..) | Operation::Read(..), State::Open) => {
@@ -62,7 +62,7 @@ fn follow(states: &mut [State], operation: &Operation) -> Result<(), Misplaced> 
         });
     };
     let state = *place;
-    match state_behind(state, operation) {
+    match state_after(state, operation) {
         Some(behind) => {
             *place = behind;
             Ok(())

@@ -14,13 +14,13 @@ use Rattle.journal_steps.specs.Journal.{TurnRefused}
 use Rattle.journal_steps.specs.Legal.{KeepsLegal}
 use Rattle.journal_steps.specs.Values.{JournalValue}
 use Rattle.journal_steps.proofs.LegalSteps.{legal-happens, refused-legal, same-legal, turn_of-legal}
-use Rattle.journal_sides.specs.Sides.{CatchesUp, Finishes, SealDid, Tells}
+use Rattle.journal_sides.specs.Sides.{CatchesUp, Finishes, SealDid, Notifies}
 use Rattle.journal_sides.specs.Sides.Finishes.{NoneFinished, OneFinished}
-use Rattle.journal_sides.specs.Sides.Tells.{NotTold, Told}
+use Rattle.journal_sides.specs.Sides.Notifies.{NotNotified, Notified}
 
-tells-legal : (old : Journal) (disk : Disk) (new : Journal) → Tells old disk new → IsLegal (transactions old.front) → IsLegal (transactions new.front)
-tells-legal old disk new (NotTold same) legal = subst (λ (j : Journal). IsLegal (transactions j.front)) (sym same) legal
-tells-legal old disk new (Told step) legal = legal-happens old disk AbortMark new disk step legal
+notifies-legal : (old : Journal) (disk : Disk) (new : Journal) → Notifies old disk new → IsLegal (transactions old.front) → IsLegal (transactions new.front)
+notifies-legal old disk new (NotNotified same) legal = subst (λ (j : Journal). IsLegal (transactions j.front)) (sym same) legal
+notifies-legal old disk new (Notified step) legal = legal-happens old disk AbortMark new disk step legal
 
 finishes-legal : (old : Journal) (disk : Disk) (new : Journal) → Finishes old disk new → IsLegal (transactions old.front) → IsLegal (transactions new.front)
 finishes-legal old disk new (NoneFinished same) legal = subst (λ (j : Journal). IsLegal (transactions j.front)) (sym same) legal
@@ -29,7 +29,7 @@ finishes-legal old disk new (OneFinished done finishes raises) legal =
 
 -- The front catches up.
 pub caught-legal : (old : Journal) (disk : Disk) (new : Journal) → CatchesUp old disk new → IsLegal (transactions old.front) → IsLegal (transactions new.front)
-caught-legal old disk new caught legal = finishes-legal caught.told disk new caught.finishes (tells-legal old disk caught.told caught.tells legal)
+caught-legal old disk new caught legal = finishes-legal caught.notified disk new caught.finishes (notifies-legal old disk caught.notified caught.notifies legal)
 
 -- A seal, whatever it answers.
 pub seal-legal : {D : Type 0} (state : D → DeviceState) (honest : D → Type 0) (old new : JournalValue D) → (honest new.device → honest old.device) →

@@ -22,7 +22,7 @@ use Rattle.journal_steps.specs.declared.turn.Turn.TheVariants.{Idle as IdleTurn,
 use Rattle.journal_steps.specs.Direct.{DirectSyncRefused, DirectWriteRefused}
 use Rattle.journal_steps.specs.Direct.DirectSyncRefused.{SyncAborted, SyncFailed}
 use Rattle.journal_steps.specs.Direct.DirectWriteRefused.{WriteAborted, WriteOutside, WriteNotDirect, WriteFailed}
-use Rattle.journal_steps.specs.Journal.{CheckTurnDid, CheckTurnRefused, Does, FailsAndTells, NewestRefused, ReadRefused, ReadsNewest, TurnDid, TurnRefused}
+use Rattle.journal_steps.specs.Journal.{CheckTurnDid, CheckTurnRefused, Does, FailsAndNotifies, NewestRefused, ReadRefused, ReadsNewest, TurnDid, TurnRefused}
 use Rattle.journal_steps.specs.Journal.CheckTurnRefused.{CheckAborted, CheckFailed}
 use Rattle.journal_steps.specs.Journal.NewestRefused.{NewestAborted, NewestOutside, NewestRevoked, NewestFailed}
 use Rattle.journal_steps.specs.Journal.ReadRefused.{ReadKeptOut, ReadRevoked, ReadUnnoted, ReadFailed}
@@ -137,9 +137,9 @@ module _ {D : Type 0} (state : D → DeviceState) (honest : D → Type 0) (old n
   pub same-legal : new ≡ old → KeepsLegal honest new
   same-legal same = alike-legal (ap (λ (v : JournalValue D). v.journal) same)
 
-  tells-legal : (fault : Event) → FailsAndTells state fault old new → KeepsLegal honest new
-  tells-legal fault did = λ h.
-      legal-happens did.mid (state new.device).disk AbortMark new.journal (state new.device).disk did.tells
+  notifies-legal : (fault : Event) → FailsAndNotifies state fault old new → KeepsLegal honest new
+  notifies-legal fault did = λ h.
+      legal-happens did.mid (state new.device).disk AbortMark new.journal (state new.device).disk did.notifies
       (legal-happens old.journal (state old.device).disk fault did.mid (state new.device).disk did.fails (legal (back h)))
 
   read-refused : (h : HandleValue) (b : ℕ) (e : JournalError) → ReadRefused state old h b new e → KeepsLegal honest new
@@ -185,7 +185,7 @@ module _ {D : Type 0} (state : D → DeviceState) (honest : D → Type 0) (old n
   turn-refused _ (WasAborted aborted same) = same-legal same
   turn-refused _ (RingIsShort due short same) = same-legal same
   turn-refused _ (MemoryIsShort due room same) = same-legal same
-  turn-refused _ (DeviceFailed did faults) = tells-legal CommitFault did
+  turn-refused _ (DeviceFailed did faults) = notifies-legal CommitFault did
 
   pub turn-legal : (r : Result Turn JournalError) → IfOk r (λ t. TurnDid state t old new) → IfErr r (λ e. TurnRefused state old new e) → KeepsLegal honest new
   turn-legal (Ok t) ok err = turn-did t ok
@@ -204,7 +204,7 @@ module _ {D : Type 0} (state : D → DeviceState) (honest : D → Type 0) (old n
 
   check-refused : (e : JournalError) → CheckTurnRefused state old new e → KeepsLegal honest new
   check-refused _ (CheckAborted aborted same stays faults) = alike-legal same
-  check-refused _ (CheckFailed did faults) = tells-legal CheckpointFault did
+  check-refused _ (CheckFailed did faults) = notifies-legal CheckpointFault did
 
   pub check-legal : (r : Result CheckTurn JournalError) → IfOk r (λ t. CheckTurnDid state t old new) → IfErr r (λ e. CheckTurnRefused state old new e) →
       KeepsLegal honest new

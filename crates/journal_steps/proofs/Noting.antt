@@ -13,7 +13,7 @@ use Rattle.journal_world.specs.Journal.Event.{ReadBlock}
 use Rattle.log_engine.specs.Engine.{EngineValue}
 use Rattle.journal_front.specs.Front.{MayStep}
 use Rattle.journal_front.specs.Values.{HandleValue}
-use Rattle.journal_steps.specs.Journal.{Agrees, Does, HasCopyKept, NoCopy, NotesRead, ReadRefused}
+use Rattle.journal_steps.specs.Journal.{Agrees, Does, HasCopyKept, NoCopy, RegistersRead, ReadRefused}
 use Rattle.journal_steps.specs.Journal.NoCopy.{OfMemory, OfRevoke}
 use Rattle.journal_steps.specs.Journal.ReadRefused.{ReadRevoked, ReadUnnoted}
 use Rattle.journal_steps.specs.Values.{JournalValue, together}
@@ -67,14 +67,14 @@ module _ {A D : Type 0} (state : D → DeviceState) (honest : D → Type 0) (f f
   noted-does is sees stays = by-does r noted is sees stays
 
   by-notes : (r : Result A JournalError) → OnOk r ((front ≡ reading_block f h.number b v) × (into ≡ v)) →
-      (HasCopyKept (together f old).journal b → new.device ≡ old.device) → OnOk r (NotesRead state (together f old) h b into (together front new))
+      (HasCopyKept (together f old).journal b → new.device ≡ old.device) → OnOk r (RegistersRead state (together f old) h b into (together front new))
   by-notes (Ok a) noted kept =
-      subst (λ (u : List ℕ). NotesRead state (together f old) h b u (together front new)) (sym noted.1)
+      subst (λ (u : List ℕ). RegistersRead state (together f old) h b u (together front new)) (sym noted.1)
       (record { may = may; front = noted.0; engine = same; kept = kept })
   by-notes (Err e) noted kept = noted
 
   -- with these bytes, even if the device's reads are incorrect
-  pub noted-notes : (HasCopyKept (together f old).journal b → new.device ≡ old.device) → OnOk r (NotesRead state (together f old) h b into (together front new))
+  pub noted-notes : (HasCopyKept (together f old).journal b → new.device ≡ old.device) → OnOk r (RegistersRead state (together f old) h b into (together front new))
   noted-notes kept = by-notes r noted kept
 
   by-refused : (r : Result A JournalError) → IfErr r (λ e. (e ≡ Memory) × (front ≡ f) × (into ≡ before)) → (last_effect b (unfinished f) ≡ Some RevokeEntry → ⊥) →

@@ -66,7 +66,7 @@ refused-check state f front d other old new e agrees told (RoundFailed fault cou
     CheckFailed (record {
       mid = record { front = f; engine = new };
       fails = record { front = refl; engine = fault };
-      tells = record { failed = ap (λ (x : Engine). x.aborted) fault.engine; front = told; engine = refl; disk_is = refl };
+      notifies = record { failed = ap (λ (x : Engine). x.aborted) fault.engine; front = told; engine = refl; disk_is = refl };
     }) counted
 
 -- a checkpoint step that did nothing is an idle turn

@@ -358,7 +358,7 @@ refused-turn state f front d other old new e running told (DeviceFailed fault co
     FailedTurn (record {
       mid = record { front = f; engine = new };
       fails = record { front = refl; engine = fault };
-      tells = record { failed = ap (λ (x : Engine). x.aborted) fault.engine; front = told; engine = refl; disk_is = refl };
+      notifies = record { failed = ap (λ (x : Engine). x.aborted) fault.engine; front = told; engine = refl; disk_is = refl };
     }) counted
 
 -- the last commit step, recorded and acknowledged by the front

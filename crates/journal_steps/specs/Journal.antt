@@ -79,7 +79,7 @@ pub data HasCopyKept (j : Journal) (b : ℕ) : Type 0 where
   OfPending : (i : ℕ) (v : List ℕ) → IsPending j.engine i b v → HasCopyKept j b
 
 -- a read by this handle saw these bytes, which is one more step; the engine is unchanged, and the device too if a copy is kept
-pub record NotesRead {D : Type 0} (state : D → DeviceState) (old : JournalValue D) (h : HandleValue) (b : ℕ) (v : List ℕ) (new : JournalValue D) : Type 0 where
+pub record RegistersRead {D : Type 0} (state : D → DeviceState) (old : JournalValue D) (h : HandleValue) (b : ℕ) (v : List ℕ) (new : JournalValue D) : Type 0 where
   pub may : MayStep old.journal.front h b
   pub front : new.journal.front ≡ reading_block old.journal.front h.number b v
   pub engine : new.journal.engine ≡ old.journal.engine
@@ -158,10 +158,10 @@ pub record FinishesCommit {D : Type 0} (state : D → DeviceState) (tid : ℕ) (
   pub told : new.journal.front.mark ≡ tid
 
 -- The device failed in the first step, then the front is notified, with nothing between.
-pub record FailsAndTells {D : Type 0} (state : D → DeviceState) (fault : Event) (old new : JournalValue D) : Type 0 where
+pub record FailsAndNotifies {D : Type 0} (state : D → DeviceState) (fault : Event) (old new : JournalValue D) : Type 0 where
   pub mid : Journal
   pub fails : Happens old.journal (state old.device).disk fault mid (state new.device).disk
-  pub tells : Happens mid (state new.device).disk AbortMark new.journal (state new.device).disk
+  pub notifies : Happens mid (state new.device).disk AbortMark new.journal (state new.device).disk
 
 -- a commit step that is not the last one
 pub record StepsCommit {D : Type 0} (state : D → DeviceState) (old new : JournalValue D) : Type 0 where
@@ -194,7 +194,7 @@ pub data TurnRefused {D : Type 0} (state : D → DeviceState) (old new : Journal
   WasAborted : old.journal.engine.aborted ≡ true → new ≡ old → TurnRefused state old new Aborted
   RingIsShort : SealIsDue old.journal → (HasRoomFor old.journal → ⊥) → new ≡ old → TurnRefused state old new NeedSpace
   MemoryIsShort : SealIsDue old.journal → HasRoomFor old.journal → new ≡ old → TurnRefused state old new Memory
-  DeviceFailed : FailsAndTells state CommitFault old new → (state new.device).faults ≡ one_more_fault (state old.device).faults →
+  DeviceFailed : FailsAndNotifies state CommitFault old new → (state new.device).faults ≡ one_more_fault (state old.device).faults →
       TurnRefused state old new Device
 
 -- no round is under way, and every committed transaction is released
@@ -215,7 +215,7 @@ CheckTurnDid state (Released tid) old new =
 pub data CheckTurnRefused {D : Type 0} (state : D → DeviceState) (old new : JournalValue D) : JournalError → Type 0 where
   CheckAborted : old.journal.engine.aborted ≡ true → new.journal ≡ old.journal → Stays (state old.device) (state new.device) →
       (state new.device).faults ≡ (state old.device).faults → CheckTurnRefused state old new Aborted
-  CheckFailed : FailsAndTells state CheckpointFault old new → (state new.device).faults ≡ one_more_fault (state old.device).faults →
+  CheckFailed : FailsAndNotifies state CheckpointFault old new → (state new.device).faults ≡ one_more_fault (state old.device).faults →
       CheckTurnRefused state old new Device
 
 -- every crash image of the disk opens, to a number of these transactions from low to high

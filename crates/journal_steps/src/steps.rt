@@ -15,7 +15,7 @@ ghost use Rattle.journal_world.specs.Journal.Event.{DirectSync, DirectWrite, Rea
 ghost use Rattle.block_device.specs.Call.{MakesOneCall, OnlyReads};
 ghost use Rattle.log_engine.specs.Left.{commit_calls};
 ghost use Rattle.journal_steps.specs.declared.turn.CheckTurn.TheVariants.{Idle as IdleCheck};
-ghost use Rattle.journal_steps.specs.Journal.{Agrees, CheckTurnDid, CheckTurnRefused, Does, FitsQuarter, HandsOut, HasRoomFor, IsDuringCheckTurn, IsDuringTurn, LeavesFewerRounds, NewestRefused, NoCopy, NotesRead, OpensNow, ReadRefused, ReadsNewest, SealIsDue, TurnDid, TurnRefused, need_of};
+ghost use Rattle.journal_steps.specs.Journal.{Agrees, CheckTurnDid, CheckTurnRefused, Does, FitsQuarter, HandsOut, HasRoomFor, IsDuringCheckTurn, IsDuringTurn, LeavesFewerRounds, NewestRefused, NoCopy, RegistersRead, OpensNow, ReadRefused, ReadsNewest, SealIsDue, TurnDid, TurnRefused, need_of};
 ghost use Rattle.journal_steps.specs.Legal.{KeepsLegal};
 ghost use Rattle.journal_steps.specs.Direct.{DirectSyncRefused, DirectWriteRefused, IsDuringDirectSync, IsDuringDirectWrite, MayWriteDirectly};
 ghost use Rattle.journal_front.specs.Front.{MayStep};
@@ -48,7 +48,7 @@ fn held_copy<R: Record>(front: &Front<R>, block: BlockNo) -> Result<Option<Block
 /// # Errors
 ///
 /// `Memory`: nothing changes.
-fn note<R: Record>(
+fn register<R: Record>(
     front: &mut Front<R>,
     handle: &Handle,
     block: BlockNo,
@@ -62,7 +62,7 @@ fn note<R: Record>(
     ensures err { IfErr result (λ e. (e ≡ Memory) × (front.new ≡ front.old) × (into.new ≡ into.old)) }
     ensures length { length into.new ≡ length into.old }
 {
-    front.note_read(handle, block, seen.try_clone()?)?;
+    front.register_read(handle, block, seen.try_clone()?)?;
     into.copy_from_slice(seen.bytes());
     Ok(())
 }
@@ -86,7 +86,7 @@ pub fn read<D: Device, R: Record>(
     requires agrees { Agrees (together front.old engine.old).journal }
     ensures agrees { Agrees (together front.new engine.new).journal }
     ensures ok { OnOk result (D.honest engine.new.device → Does D.state (together front.old engine.old) (ReadBlock handle.now.number block into.new) (together front.new engine.new)) }
-    ensures noted { OnOk result (NotesRead D.state (together front.old engine.old) handle.now block into.new (together front.new engine.new)) }
+    ensures noted { OnOk result (RegistersRead D.state (together front.old engine.old) handle.now block into.new (together front.new engine.new)) }
     ensures legal { KeepsLegal D.honest (together front.old engine.old) → KeepsLegal D.honest (together front.new engine.new) }
     ensures err { IfErr result (ReadRefused D.state (together front.old engine.old) handle.now block (together front.new engine.new)) }
     ensures untouched { IfErr result (λ e. into.new ≡ into.old) }
@@ -99,14 +99,14 @@ pub fn read<D: Device, R: Record>(
     engine.recall_invariant();
     front.admit(handle, block)?;
     if let Some(copy) = held_copy(front, block)? {
-        return note(front, handle, block, copy, into);
+        return register(front, handle, block, copy, into);
     }
     let mut bytes = front.room_for_read()?;
     if let Err(e) = engine.read(block, &mut bytes) {
         front.abort();
         return Err(e);
     }
-    note(front, handle, block, Block::new(bytes)?, into)
+    register(front, handle, block, Block::new(bytes)?, into)
 }
 
 /// Copies a block's last entry in the unfinished transactions into the buffer, if it is a copy, and answers whether it did.

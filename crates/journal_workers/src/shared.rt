@@ -17,7 +17,7 @@ pub struct Shared<'s, J: JournalName, D: Device, R: Record, G> {
 
 /// Why the commit worker is woken.
 #[derive(Clone, Copy, Debug, Drop)]
-pub enum Kick {
+pub enum Wake {
     /// A client waits for the commit of this transaction.
     Commit(Tid),
     /// A client can't start: the running transaction has to make way.
@@ -32,7 +32,7 @@ pub enum Kick {
 #[derive(Drop)]
 pub struct Signals {
     /// Counts stops of handles, seals, commits and device failures.
-    pub moved: EventCounter,
+    pub changes: EventCounter,
     /// Counts checkpoint rounds that are over.
     pub room: EventCounter,
     /// 1 while a requested round has not begun.
@@ -47,7 +47,7 @@ impl Signals {
     /// Nobody waits, and nothing is requested.
     pub fn new() -> Signals {
         Signals {
-            moved: EventCounter::new(),
+            changes: EventCounter::new(),
             room: EventCounter::new(),
             round: AtomicU64::new(0),
             half_full: AtomicU64::new(0),
@@ -55,8 +55,8 @@ impl Signals {
         }
     }
 
-    /// Counts one more waiter. A waiter calls this before it kicks the worker. So each later stop of a handle that the worker waits for
-    /// finds a waiter, and kicks it again.
+    /// Counts one more waiter. A waiter calls this before it wakes the worker. So each later stop of a handle that the worker waits for
+    /// finds a waiter, and wakes it again.
     pub fn begin_wait(&self) {
         self.waiting.fetch_add(1, Ordering::SeqCst);
     }
@@ -71,7 +71,7 @@ impl Signals {
         self.waiting.load(Ordering::SeqCst) != 0
     }
 
-    /// Requests a commit because half of the credits are used. It returns whether to kick the worker: not if an earlier request is still
+    /// Requests a commit because half of the credits are used. It returns whether to wake the worker: not if an earlier request is still
     /// open.
     pub fn ask_for_half(&self) -> bool {
         self.half_full
@@ -79,7 +79,7 @@ impl Signals {
             .is_ok()
     }
 
-    /// The worker begins to look, or was not kicked: the request is no longer open.
+    /// The worker begins to look, or was not woken: the request is no longer open.
     pub fn begin_half(&self) {
         self.half_full.store(0, Ordering::SeqCst);
     }

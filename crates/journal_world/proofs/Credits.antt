@@ -13,7 +13,7 @@ use Rattle.journal_model.specs.declared.transaction.Op.{Op}
 use Rattle.journal_model.specs.declared.transaction.Op.TheVariants.{Write, Revoke as RevokeOp}
 use Rattle.journal_model.specs.declared.transaction.Step.{Step}
 use Rattle.journal_model.specs.Transaction.{effect, entries, entry_of}
-use Rattle.journal_world.specs.Credits.{HeldAfter, HeldBehind, IsAtHand, NeedsFront, RefusedAfter, accounts_of, beside, beside_all}
+use Rattle.journal_world.specs.Credits.{HeldAfter, HeldAfterEvent, IsAtHand, NeedsFront, RefusedAfter, accounts_of, beside, beside_all}
 use Rattle.journal_world.specs.Front.{ExtendsHandle, Front, FrontEvent, FrontHappens, GivesBack, IsFirstTouch, IsOpen, Joins, Reserves, RevokesBlock, StopsHandle, WritesBlock, credit_word, extending, giving_back, held, joining, left_after, left_in, read_step, reading_block, reserving, sealing, stopping, touching}
 use Rattle.journal_world.specs.Journal.{Event, Happens, Journal}
 use Rattle.journal_world.specs.Journal.Event.{FrontStep, Seal, CommitStep, CommitFault, CheckpointStep, CheckpointFault, ReadBlock, ReadFault, DirectWrite, DirectWriteFault, DirectSync, DirectSyncFault, Finish, AbortMark}
@@ -247,7 +247,7 @@ event-beside old new (Raise t) reserved refused hand step = record {
 }
 
 -- the credits held after each event of a journal
-pub journal-held : (old new : Journal) (disk after : Disk) (event : Event) → Happens old disk event new after → HeldBehind old.front event (held new.front)
+pub journal-held : (old new : Journal) (disk after : Disk) (event : Event) → Happens old disk event new after → HeldAfterEvent old.front event (held new.front)
 journal-held old new disk after (FrontStep event) step = event-held old.front new.front event step.front
 journal-held old new disk after Seal step =
     let same : held new.front ≡ held (sealing old.front) = ap (λ (f : Front). held f) step.front in omega arith

@@ -70,21 +70,21 @@ accounts_of f values refused = record {
 }
 
 -- a seal returns the credits of the transaction's entries
-abbrev pub HeldBehind : Front → Event → ℕ → Type 0
-HeldBehind old (FrontStep event) after = HeldAfter old event after
-HeldBehind old Seal after = after + length (entries old.running.steps) ≡ held old
-HeldBehind old CommitStep after = after ≡ held old
-HeldBehind old CommitFault after = after ≡ held old
-HeldBehind old CheckpointStep after = after ≡ held old
-HeldBehind old CheckpointFault after = after ≡ held old
-HeldBehind old (ReadBlock h b v) after = after ≡ held old
-HeldBehind old ReadFault after = after ≡ held old
-HeldBehind old (DirectWrite b v) after = after ≡ held old
-HeldBehind old (DirectWriteFault b v) after = after ≡ held old
-HeldBehind old DirectSync after = after ≡ held old
-HeldBehind old DirectSyncFault after = after ≡ held old
-HeldBehind old Finish after = after ≡ held old
-HeldBehind old AbortMark after = after ≡ held old
+abbrev pub HeldAfterEvent : Front → Event → ℕ → Type 0
+HeldAfterEvent old (FrontStep event) after = HeldAfter old event after
+HeldAfterEvent old Seal after = after + length (entries old.running.steps) ≡ held old
+HeldAfterEvent old CommitStep after = after ≡ held old
+HeldAfterEvent old CommitFault after = after ≡ held old
+HeldAfterEvent old CheckpointStep after = after ≡ held old
+HeldAfterEvent old CheckpointFault after = after ≡ held old
+HeldAfterEvent old (ReadBlock h b v) after = after ≡ held old
+HeldAfterEvent old ReadFault after = after ≡ held old
+HeldAfterEvent old (DirectWrite b v) after = after ≡ held old
+HeldAfterEvent old (DirectWriteFault b v) after = after ≡ held old
+HeldAfterEvent old DirectSync after = after ≡ held old
+HeldAfterEvent old DirectSyncFault after = after ≡ held old
+HeldAfterEvent old Finish after = after ≡ held old
+HeldAfterEvent old AbortMark after = after ≡ held old
 
 abbrev pub NeedsFront : Event → Type 0
 NeedsFront (FrontStep event) = IsAtHand event

@@ -4,7 +4,7 @@ ghost use Rattle.journal_model.specs.Credits.{credit_word as word_of, credits_he
 ghost use Rattle.journal_model.specs.Disk.{Disk};
 ghost use Rattle.journal_model.specs.Reading.{HasDirectRight};
 ghost use Rattle.journal_model.specs.Transaction.{History};
-ghost use Rattle.journal_world.specs.Credits.{HeldAfter, HeldBehind, IsAtHand, NeedsFront, RefusedAfter, accounts_of, beside, beside_all};
+ghost use Rattle.journal_world.specs.Credits.{HeldAfter, HeldAfterEvent, IsAtHand, NeedsFront, RefusedAfter, accounts_of, beside, beside_all};
 ghost use Rattle.journal_world.specs.Direct.{IsLeftToHome};
 ghost use Rattle.journal_world.specs.Engine.{AreBatchesOf, Engine};
 ghost use Rattle.journal_world.specs.Front.FrontEvent.{LoadCredits, LoadMark, RefuseReserve, Reserve};
@@ -30,7 +30,7 @@ pub fn the_credit_word_decides()
 /// stops, and, for entries, at the seal. A refused reserve adds to the credit word until its own step takes that back.
 pub fn no_credit_is_lost_or_made()
     ensures held { (old new : Front) (event : FrontEvent) → FrontHappens old event new → HeldAfter old event (held new) }
-    ensures journal { (old new : Journal) (disk after : Disk) (event : Event) → Happens old disk event new after → HeldBehind old.front event (held new.front) }
+    ensures journal { (old new : Journal) (disk after : Disk) (event : Event) → Happens old disk event new after → HeldAfterEvent old.front event (held new.front) }
     ensures refused { (old new : Front) (event : FrontEvent) → FrontHappens old event new → RefusedAfter old event new.refused }
 {}
 

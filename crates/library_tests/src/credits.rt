@@ -2,7 +2,7 @@
 ghost use Rattle.std.specs.Prelude.{◌≡◌};
 
 use crate::bytes::expect;
-use handle::{CommitMark, CreditPool, Handle, JournalName, LaidBoard, Raiser, Seat, Ticket, board};
+use handle::{CommitMark, CreditPool, HandleToken, JournalName, UnnamedBoard, Raiser, Seat, TicketToken, board};
 use journal_model::{HandleNo, Status, Tid};
 use std::marker::Brand;
 use std::process::Abort;
@@ -58,7 +58,7 @@ fn answers<J: JournalName, R: Abort>(
     let mut held = pool.none(seat);
     held.join(pool, credits);
     let ticket = mark.ticket(raiser, HandleNo(1), Tid(2));
-    let handle = Handle::new(pool, raiser, ticket);
+    let handle = HandleToken::new(pool, raiser, ticket);
     let name = (handle.number().0, handle.tid().0);
     let open = (held.count(), pool.word(seat));
     held.split(pool, 1).give_back(pool);
@@ -80,7 +80,7 @@ fn asks<J: JournalName, R: Abort>(
     mark: &CommitMark<J>,
     raiser: &mut Raiser<J>,
     seat: &mut Seat<J>,
-    ticket: Ticket<J>,
+    ticket: TicketToken<J>,
 ) {
     let before = mark.status(&ticket, seat);
     let Err(ticket) = ticket.reach(mark) else {
@@ -134,10 +134,10 @@ fn two_at_once<J: JournalName + Send + Sync, R: Threads + Abort + Sync>(
     expect(rt, &(one && other, left), &(true, (0, 0)));
 }
 
-fn on_board<J: JournalName + Send + Sync, R: Threads + Abort + Sync>(rt: &R, laid: LaidBoard)
-    requires { (laid.board ≡ J.name.board) × (laid.capacity ≡ J.name.capacity) }
+fn on_board<J: JournalName + Send + Sync, R: Threads + Abort + Sync>(rt: &R, unnamed: UnnamedBoard)
+    requires { (unnamed.board ≡ J.name.board) × (unnamed.capacity ≡ J.name.capacity) }
 {
-    let (pool, mark, mut raiser, mut seat) = laid.named::<J>();
+    let (pool, mark, mut raiser, mut seat) = unnamed.named::<J>();
     credits(rt, &pool, &mut seat);
     answers(rt, &pool, &mark, &mut raiser, &mut seat);
     two_at_once(rt, &pool, &mut seat);
@@ -145,7 +145,7 @@ fn on_board<J: JournalName + Send + Sync, R: Threads + Abort + Sync>(rt: &R, lai
 
 #[test]
 fn credits_and_mark_are_kept(rt: HostRuntime) -> Result<(), Fail> {
-    let laid = board(rt.alloc(), 6, Tid(1))?;
-    on_board::<Brand, _>(&rt, laid);
+    let unnamed = board(rt.alloc(), 6, Tid(1))?;
+    on_board::<Brand, _>(&rt, unnamed);
     Ok(())
 }

@@ -3,10 +3,10 @@
 ghost use Rattle.std.specs.Prelude.{◌≡◌};
 
 use crate::bytes::expect;
-use crate::logs::{formatted, laid_on};
+use crate::logs::{formatted, unnamed_on};
 use block_device::{Device, MemDevice};
 use journal_model::{Area, BlockNo, HandleNo, JournalError, Op, Sealed, Step};
-use shared_journal::{Handle, Journal, JournalName, LaidJournal, Parts, Record, Seat, Ticket};
+use shared_journal::{Handle, Journal, JournalName, UnnamedJournal, Parts, Record, Seat, Ticket};
 use std::alloc::Global;
 use std::marker::Brand;
 use std::process::Abort;
@@ -307,11 +307,11 @@ fn is_right(parts: Parts<MemDevice, Vec<Sealed>>) -> bool {
 
 fn worked<J: JournalName + Send + Sync, R: Threads + Wait + Abort + Sync>(
     rt: &R,
-    laid: LaidJournal<MemDevice, Vec<Sealed>>,
+    unnamed: UnnamedJournal<MemDevice, Vec<Sealed>>,
 )
-    requires name { laid.name ≡ J.name }
+    requires name { unnamed.name ≡ J.name }
 {
-    let (journal, mut seat) = laid.named::<J>();
+    let (journal, mut seat) = unnamed.named::<J>();
     let (Some(one), Some(two), Some(three)) = (
         journal.split_seat(&mut seat),
         journal.split_seat(&mut seat),
@@ -328,8 +328,8 @@ fn worked<J: JournalName + Send + Sync, R: Threads + Wait + Abort + Sync>(
 
 /// One run, over a ring that wraps several times.
 fn run<R: Threads + Wait + Abort + Sync>(rt: &R, alloc: Global) -> Result<(), JournalError> {
-    let laid = laid_on(alloc, formatted(alloc, 65, HOME_BLOCKS)?)?;
-    worked::<Brand, _>(rt, laid);
+    let unnamed = unnamed_on(alloc, formatted(alloc, 65, HOME_BLOCKS)?)?;
+    worked::<Brand, _>(rt, unnamed);
     Ok(())
 }
 

@@ -3,10 +3,10 @@
 ghost use Rattle.std.specs.Prelude.{◌≡◌};
 
 use crate::bytes::expect;
-use crate::logs::{formatted, laid_on};
+use crate::logs::{formatted, unnamed_on};
 use block_device::{Device, DeviceFault};
 use journal_model::{Area, BlockNo, JournalError};
-use shared_journal::{CheckTurn, Journal, JournalName, LaidJournal, Seat, Ticket, Turn};
+use shared_journal::{CheckTurn, Journal, JournalName, UnnamedJournal, Seat, Ticket, Turn};
 use std::alloc::Global;
 use std::marker::Brand;
 use std::process::Abort;
@@ -296,10 +296,10 @@ fn overtaken<
     J: JournalName + Send + Sync,
     D: Device + Drop + Send,
     R: Threads + Wait + Abort + Sync,
->(rt: &R, laid: LaidJournal<D>, gate: &Overtaking) -> u64
-    requires name { laid.name ≡ J.name }
+>(rt: &R, unnamed: UnnamedJournal<D>, gate: &Overtaking) -> u64
+    requires name { unnamed.name ≡ J.name }
 {
-    let (journal, mut seat) = laid.named::<J>();
+    let (journal, mut seat) = unnamed.named::<J>();
     let (Some(one), Some(two)) = (journal.split_seat(&mut seat), journal.split_seat(&mut seat))
     else {
         panic!(rt; "there is no further seat")
@@ -323,8 +323,8 @@ fn is_overtaken<R: Threads + Wait + Abort + Sync>(
         device: formatted(alloc, 1024, 4096)?,
         gate: &gate,
     };
-    let laid = laid_on(alloc, device)?;
-    let committed = overtaken::<Brand, _, _>(rt, laid, &gate);
+    let unnamed = unnamed_on(alloc, device)?;
+    let committed = overtaken::<Brand, _, _>(rt, unnamed, &gate);
     let has_held = gate.held.load(Ordering::SeqCst) != 0;
     let has_given_up = gate.given_up.load(Ordering::SeqCst) != 0;
     expect(rt, &(committed, has_held, has_given_up), &(2, true, false));

@@ -22,7 +22,7 @@ mod held;
 #[cfg(test)]
 mod logs;
 #[cfg(test)]
-mod meetings;
+mod reconciliations;
 #[cfg(test)]
 mod newest;
 #[cfg(test)]

@@ -2,7 +2,7 @@
 use block_device::{Device, MemDevice};
 use journal_model::JournalError;
 use recovery::Opened;
-use shared_journal::{LaidJournal, Record, lay};
+use shared_journal::{UnnamedJournal, Record, create};
 use std::alloc::Global;
 
 /// Bytes of a block.
@@ -24,20 +24,20 @@ pub fn opened<D: Device + Drop>(alloc: Global, device: D) -> Result<Opened<D>, J
 }
 
 /// An unnamed shared journal on an opened log.
-pub fn lay_on<D: Device + Drop, K: Record>(
+pub fn create_on<D: Device + Drop, K: Record>(
     alloc: Global,
     opened: Opened<D>,
-) -> Result<LaidJournal<D, K>, JournalError> {
-    match lay(alloc, opened) {
-        Ok(laid) => Ok(laid),
+) -> Result<UnnamedJournal<D, K>, JournalError> {
+    match create(alloc, opened) {
+        Ok(unnamed) => Ok(unnamed),
         Err((_, e)) => Err(e),
     }
 }
 
 /// An unnamed shared journal on the log of a device.
-pub fn laid_on<D: Device + Drop, K: Record>(
+pub fn unnamed_on<D: Device + Drop, K: Record>(
     alloc: Global,
     device: D,
-) -> Result<LaidJournal<D, K>, JournalError> {
-    lay_on(alloc, opened(alloc, device)?)
+) -> Result<UnnamedJournal<D, K>, JournalError> {
+    create_on(alloc, opened(alloc, device)?)
 }

@@ -7,7 +7,7 @@ use block_device::{Device, FailOnce, MemDevice};
 use group_commit::{Journal, Record, Ticket, Turn};
 use journal_model::{BlockNo, JournalError};
 use recovery::Opened;
-use shared_journal::{Journal as Shared, JournalName, LaidJournal, lay};
+use shared_journal::{Journal as Shared, JournalName, UnnamedJournal, create};
 use std::alloc::Global;
 use std::marker::Brand;
 use std::process::Abort;
@@ -184,10 +184,10 @@ fn first_shared<J: JournalName, R: Wait>(
 }
 
 /// Reads a home block and one that home lacks. Returns how many transactions are committed at the close.
-fn only_read<J: JournalName, R: Wait + Abort>(rt: &R, laid: LaidJournal<FailOnce<MemDevice>>) -> u64
-    requires name { laid.name ≡ J.name }
+fn only_read<J: JournalName, R: Wait + Abort>(rt: &R, unnamed: UnnamedJournal<FailOnce<MemDevice>>) -> u64
+    requires name { unnamed.name ≡ J.name }
 {
-    let (journal, _seat) = laid.named::<J>();
+    let (journal, _seat) = unnamed.named::<J>();
     assert_eq!(rt; first_shared(rt, &journal, 9), Ok(0));
     assert_eq!(rt; first_shared(rt, &journal, 64), Err(JournalError::BadBlock));
     let Ok(parts) = journal.close() else {
@@ -200,10 +200,10 @@ fn only_read<J: JournalName, R: Wait + Abort>(rt: &R, laid: LaidJournal<FailOnce
 fn a_read_without_a_handle_makes_no_transaction_of_a_shared_journal(
     rt: HostRuntime,
 ) -> Result<(), Fail> {
-    let Ok(laid) = lay(rt.alloc(), empty(rt.alloc(), 0)?) else {
+    let Ok(unnamed) = create(rt.alloc(), empty(rt.alloc(), 0)?) else {
         panic!(rt; "the journal is refused")
     };
-    let committed = only_read::<Brand, _>(&rt, laid);
+    let committed = only_read::<Brand, _>(&rt, unnamed);
     assert_eq!(rt; committed, 0);
     Ok(())
 }

@@ -2,10 +2,10 @@
 ghost use Rattle.std.specs.Prelude.{◌≡◌};
 
 use crate::bytes::expect;
-use crate::logs::{formatted, laid_on, opened};
+use crate::logs::{formatted, unnamed_on, opened};
 use block_device::{Device, MemDevice};
 use journal_model::{Area, BlockNo, JournalError, Sealed, Tid};
-use shared_journal::{Journal, JournalName, LaidJournal, Record, Seat};
+use shared_journal::{Journal, JournalName, UnnamedJournal, Record, Seat};
 use std::alloc::Global;
 use std::marker::Brand;
 use std::process::Abort;
@@ -44,11 +44,11 @@ fn write_and_restart<J: JournalName, D: Device, K: Record, R: Wait>(
 /// Does so, and closes the journal: one transaction is sealed and committed.
 fn closed<J: JournalName, R: Wait + Abort>(
     rt: &R,
-    laid: LaidJournal<MemDevice, Vec<Sealed>>,
+    unnamed: UnnamedJournal<MemDevice, Vec<Sealed>>,
 ) -> MemDevice
-    requires name { laid.name ≡ J.name }
+    requires name { unnamed.name ≡ J.name }
 {
-    let (journal, mut seat) = laid.named::<J>();
+    let (journal, mut seat) = unnamed.named::<J>();
     let told = write_and_restart(rt, &journal, &mut seat);
     expect(rt, &told, &Ok((Tid(2), Tid(2))));
     let Ok(parts) = journal.close() else {
@@ -73,8 +73,8 @@ fn found(alloc: Global, device: MemDevice) -> Result<(bool, Tid, [u8; 1024]), Jo
 
 #[test]
 fn a_closed_journal_is_opened_again(rt: HostRuntime) -> Result<(), Fail> {
-    let laid = laid_on(rt.alloc(), formatted(rt.alloc(), 33, 64)?)?;
-    let device = closed::<Brand, _>(&rt, laid);
+    let unnamed = unnamed_on(rt.alloc(), formatted(rt.alloc(), 33, 64)?)?;
+    let device = closed::<Brand, _>(&rt, unnamed);
     let told = found(rt.alloc(), device)?;
     expect(&rt, &told, &(true, Tid(4), beginning_with_11()));
     Ok(())

@@ -7,12 +7,12 @@ mod refused;
 mod tasks;
 
 use crate::bytes::expect;
-use crate::logs::{BLOCK_SIZE, formatted, laid_on, lay_on, opened};
+use crate::logs::{BLOCK_SIZE, formatted, unnamed_on, create_on, opened};
 use block_device::{Device, FailOnce, MemDevice};
 use gates::{Meeting, Overtaking};
 use journal_model::{Block, BlockNo, JournalError, Sealed, Tid};
 use recovery::Opened;
-use shared_journal::{JournalName, LaidJournal, Tally};
+use shared_journal::{JournalName, UnnamedJournal, Tally};
 use std::alloc::{AllocError, Global};
 use std::marker::Brand;
 use std::sync::Wait;
@@ -126,13 +126,13 @@ fn try_run<
 >(
     rt: &R,
     alloc: Global,
-    laid: LaidJournal<D, Vec<Sealed>>,
+    unnamed: UnnamedJournal<D, Vec<Sealed>>,
     plans: &[Vec<HandlePlan>],
     gate: &G,
 ) -> Result<(Summary, D), JournalError>
-    requires name { laid.name ≡ J.name }
+    requires name { unnamed.name ≡ J.name }
 {
-    let (journal, seat) = laid.named::<J>();
+    let (journal, seat) = unnamed.named::<J>();
     match Service::run(rt, alloc, journal, seat, plans, gate) {
         Ok(outcome) => Ok(summary_of(outcome)),
         Err(e) => Err(e),
@@ -170,8 +170,8 @@ fn run_on<D: Device + Send + Drop, G: Gate + Sync, R: Threads + Wait + Sync>(
     plans: &[Vec<HandlePlan>],
     gate: &G,
 ) -> Result<(Summary, D), JournalError> {
-    let laid = laid_on(alloc, device)?;
-    try_run::<Brand, _, _, _>(rt, alloc, laid, plans, gate)
+    let unnamed = unnamed_on(alloc, device)?;
+    try_run::<Brand, _, _, _>(rt, alloc, unnamed, plans, gate)
 }
 
 /// Runs clients over a new log in memory.
@@ -314,8 +314,8 @@ fn fails_well<R: Threads + Wait + Sync>(
     opened: Opened<FailOnce<MemDevice>>,
     plans: &[Vec<HandlePlan>],
 ) -> Result<bool, JournalError> {
-    let laid = lay_on(alloc, opened)?;
-    let (summary, device) = try_run::<Brand, _, _, _>(rt, alloc, laid, plans, &OpenGate)?;
+    let unnamed = create_on(alloc, opened)?;
+    let (summary, device) = try_run::<Brand, _, _, _>(rt, alloc, unnamed, plans, &OpenGate)?;
     let is_told = summary.refused > 0 && summary.why == Some(JournalError::Aborted);
     let left = opened_left(alloc, device.into_inner().crash(&[]))?;
     let acknowledged = summary.acknowledged.unwrap_or(Tid(0));

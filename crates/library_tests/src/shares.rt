@@ -2,7 +2,7 @@
 ghost use Rattle.std.specs.Prelude.{◌≡◌, ◌≤◌, Some};
 
 use crate::bytes::expect;
-use parts::{Agreement, Fragment, Parts, PartsName, UnnamedParts, Whole};
+use parts::{Agreement, Fragment, SharedWhole, PartsName, UnnamedWhole, Whole};
 use std::marker::{Brand, Model};
 use std::process::Abort;
 use std::test::Fail;
@@ -56,12 +56,12 @@ impl<J: PartsName> Model for Share<J> {
 }
 
 /// A share of nothing.
-fn none<J: PartsName>(parts: &Parts<J, u64, u64, Within>, total: &mut Total<J>) -> Share<J> {
+fn none<J: PartsName>(parts: &SharedWhole<J, u64, u64, Within>, total: &mut Total<J>) -> Share<J> {
     let part = parts.add::<Brand>(&mut total.whole, &total.total);
     Share { share: 0, part }
 }
 
-fn rise<J: PartsName>(parts: &Parts<J, u64, u64, Within>, total: &mut Total<J>) {
+fn rise<J: PartsName>(parts: &SharedWhole<J, u64, u64, Within>, total: &mut Total<J>) {
     if total.total < MOST {
         total.total += 1;
     }
@@ -70,7 +70,7 @@ fn rise<J: PartsName>(parts: &Parts<J, u64, u64, Within>, total: &mut Total<J>) 
 
 /// A share takes all of the number. Returns by how much it has risen since the last time.
 fn take<J: PartsName>(
-    parts: &Parts<J, u64, u64, Within>,
+    parts: &SharedWhole<J, u64, u64, Within>,
     total: &mut Total<J>,
     share: &mut Share<J>,
 ) -> u64
@@ -84,7 +84,7 @@ fn take<J: PartsName>(
 
 /// How much of the number a share lacks. Neither changes.
 fn lacking<J: PartsName>(
-    parts: &Parts<J, u64, u64, Within>,
+    parts: &SharedWhole<J, u64, u64, Within>,
     total: &mut Total<J>,
     share: &mut Share<J>,
 ) -> u64
@@ -94,7 +94,7 @@ fn lacking<J: PartsName>(
     total.total - share.share
 }
 
-fn rises_between<J: PartsName, R: Abort>(rt: &R, unnamed: UnnamedParts<u64, u64, Within>)
+fn rises_between<J: PartsName, R: Abort>(rt: &R, unnamed: UnnamedWhole<u64, u64, Within>)
     requires { unnamed ≡ J.parts }
 {
     let (parts, whole) = unnamed.named::<J>(&0);
@@ -114,7 +114,7 @@ fn rises_between<J: PartsName, R: Abort>(rt: &R, unnamed: UnnamedParts<u64, u64,
 
 #[test]
 fn two_shares_of_a_number(rt: HostRuntime) -> Result<(), Fail> {
-    let unnamed = UnnamedParts::new(rt.alloc())?;
+    let unnamed = UnnamedWhole::new(rt.alloc())?;
     rises_between::<Brand, _>(&rt, unnamed);
     Ok(())
 }

@@ -5,7 +5,7 @@ use crate::bytes::expect;
 use crate::logs::{formatted, opened};
 use block_device::MemDevice;
 use journal_model::{BlockNo, JournalError, Tid};
-use journal_sides::{EngineSide, FrontSide, SidesMeeting, UnnamedSides, meet, seal};
+use journal_sides::{EngineSide, FrontSide, SidesReconciler, UnnamedSides, reconcile, seal};
 use journal_steps::Turn;
 use log_engine::Progress;
 use parts::PartsName;
@@ -45,31 +45,31 @@ fn refusal<J: PartsName>(front: &mut FrontSide<J, MemDevice>) -> Option<JournalE
 
 /// Whether the engine takes a step of a commit that is not its last.
 fn is_step<J: PartsName>(
-    meeting: &SidesMeeting<J, MemDevice>,
+    reconciler: &SidesReconciler<J, MemDevice>,
     engine: &mut EngineSide<J, MemDevice>,
 ) -> bool {
-    matches!(engine.commit_step(meeting), Ok(Progress::Step))
+    matches!(engine.commit_step(reconciler), Ok(Progress::Step))
 }
 
-/// While the engine alone commits a transaction, handles of the next one work. The front learns of the commit when both meet.
+/// While the engine alone commits a transaction, handles of the next one work. The front learns of the commit when both are reconciled.
 fn goes_on<J: PartsName, R: Abort>(rt: &R, unnamed: UnnamedSides<MemDevice>)
-    requires { unnamed.meeting ≡ J.parts }
+    requires { unnamed.reconciler ≡ J.parts }
 {
-    let (meeting, mut front, mut engine) = unnamed.named::<J>();
+    let (reconciler, mut front, mut engine) = unnamed.named::<J>();
     let first = revoke_and_request(&mut front, 9, 2);
     let refused = refusal(&mut front);
-    let sealed = seal(&meeting, &mut front, &mut engine);
-    let mut are_steps = is_step(&meeting, &mut engine);
+    let sealed = seal(&reconciler, &mut front, &mut engine);
+    let mut are_steps = is_step(&reconciler, &mut engine);
     let second = revoke_and_request(&mut front, 10, 3);
-    let waits = seal(&meeting, &mut front, &mut engine);
+    let waits = seal(&reconciler, &mut front, &mut engine);
     for _ in 0..4 {
-        are_steps = is_step(&meeting, &mut engine) && are_steps;
+        are_steps = is_step(&reconciler, &mut engine) && are_steps;
     }
-    let is_done = matches!(engine.commit_step(&meeting), Ok(Progress::Done(Tid(2))));
+    let is_done = matches!(engine.commit_step(&reconciler), Ok(Progress::Done(Tid(2))));
     let before = front.mark();
-    meet(&meeting, &mut front, &mut engine);
+    reconcile(&reconciler, &mut front, &mut engine);
     let marks = [before, front.mark()];
-    let last = seal(&meeting, &mut front, &mut engine);
+    let last = seal(&reconciler, &mut front, &mut engine);
     let seals = [
         Ok(Some(Turn::Sealed(Tid(2)))),
         Ok(None),

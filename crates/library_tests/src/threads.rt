@@ -3,11 +3,11 @@ ghost use Rattle.std.specs.Prelude.{◌≡◌};
 
 use crate::bytes::expect;
 use crate::files::{Made, device_over, holds};
-use crate::logs::{formatted, laid_on};
+use crate::logs::{formatted, unnamed_on};
 use block_device::{Device, MemDevice};
 use file_device::{FileDevice, UnknownContents};
 use journal_model::BlockNo;
-use shared_journal::{Journal, JournalName, LaidJournal, Seat, Status, Tally, Ticket, Turn};
+use shared_journal::{Journal, JournalName, UnnamedJournal, Seat, Status, Tally, Ticket, Turn};
 use std::marker::Brand;
 use std::process::Abort;
 use std::sync::Wait;
@@ -178,7 +178,7 @@ fn told_before<J: JournalName, R: Wait>(
 
 /// Commits the transaction of both tickets. Returns whether that was done, whether all credits are free, the second ticket's status, and
 /// whether both stand.
-fn told_behind<J: JournalName, R: Wait>(
+fn told_after<J: JournalName, R: Wait>(
     rt: &R,
     journal: &Journal<J, MemDevice>,
     seat: &mut Seat<J>,
@@ -199,11 +199,11 @@ fn told_behind<J: JournalName, R: Wait>(
 /// Two threads reserve at once, then write at once. All is committed in one transaction, and the credits are back.
 fn shared<J: JournalName + Send + Sync, R: Threads + Wait + Abort + Sync>(
     rt: &R,
-    laid: LaidJournal<MemDevice>,
+    unnamed: UnnamedJournal<MemDevice>,
 )
-    requires name { laid.name ≡ J.name }
+    requires name { unnamed.name ≡ J.name }
 {
-    let (journal, mut seat) = laid.named::<J>();
+    let (journal, mut seat) = unnamed.named::<J>();
     let (Some(one), Some(two), Some(three), Some(four)) = (
         journal.split_seat(&mut seat),
         journal.split_seat(&mut seat),
@@ -219,7 +219,7 @@ fn shared<J: JournalName + Send + Sync, R: Threads + Wait + Abort + Sync>(
         panic!(rt; "a handle is refused")
     };
     let before = told_before(rt, &journal, &mut seat, &tickets.0);
-    let behind = told_behind(rt, &journal, &mut seat, tickets);
+    let behind = told_after(rt, &journal, &mut seat, tickets);
     let Ok(parts) = journal.close() else {
         panic!(rt; "the close is refused")
     };
@@ -234,8 +234,8 @@ fn shared<J: JournalName + Send + Sync, R: Threads + Wait + Abort + Sync>(
 
 #[test]
 fn two_threads_share_a_journal(rt: HostRuntime) -> Result<(), Fail> {
-    let laid = laid_on(rt.alloc(), formatted(rt.alloc(), 1024, 4096)?)?;
-    shared::<Brand, _>(&rt, laid);
+    let unnamed = unnamed_on(rt.alloc(), formatted(rt.alloc(), 1024, 4096)?)?;
+    shared::<Brand, _>(&rt, unnamed);
     Ok(())
 }
 
@@ -255,11 +255,11 @@ fn two_files(rt: &HostRuntime) -> io::Result<FileDevice<UnknownContents>> {
 /// Two threads write at once; all is committed in one transaction and written home.
 fn written<J: JournalName + Send + Sync, D: Device + Drop + Send, R: Threads + Wait + Abort + Sync>(
     rt: &R,
-    laid: LaidJournal<D>,
+    unnamed: UnnamedJournal<D>,
 ) -> D
-    requires name { laid.name ≡ J.name }
+    requires name { unnamed.name ≡ J.name }
 {
-    let (journal, mut seat) = laid.named::<J>();
+    let (journal, mut seat) = unnamed.named::<J>();
     let (Some(one), Some(two)) = (journal.split_seat(&mut seat), journal.split_seat(&mut seat))
     else {
         panic!(rt; "there is no further seat")
@@ -294,8 +294,8 @@ fn is_home(rt: &HostRuntime) -> io::Result<bool> {
 fn two_threads_share_a_journal_over_files(rt: HostRuntime) -> Result<(), Fail> {
     let mut device = two_files(&rt)?;
     recovery::format(&mut device, 256, &[7; 16], false)?;
-    let laid = laid_on(rt.alloc(), device)?;
-    drop(written::<Brand, _, _>(&rt, laid));
+    let unnamed = unnamed_on(rt.alloc(), device)?;
+    drop(written::<Brand, _, _>(&rt, unnamed));
     expect(&rt, &is_home(&rt)?, &true);
     Ok(())
 }

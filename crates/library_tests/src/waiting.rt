@@ -2,10 +2,10 @@
 ghost use Rattle.std.specs.Prelude.{◌≡◌};
 
 use crate::bytes::expect;
-use crate::logs::{formatted, laid_on};
+use crate::logs::{formatted, unnamed_on};
 use block_device::{Device, StopAt};
 use journal_model::{BlockNo, JournalError, Tid};
-use shared_journal::{Handle, Journal, JournalName, LaidJournal, Seat, Turn};
+use shared_journal::{Handle, Journal, JournalName, UnnamedJournal, Seat, Turn};
 use std::alloc::Global;
 use std::marker::Brand;
 use std::process::Abort;
@@ -122,7 +122,7 @@ fn take_turns<J: JournalName, D: Device, R: Wait>(
 }
 
 /// `go_through`, and then sets the word.
-fn go_through_and_tell<J: JournalName, D: Device, R: Wait>(
+fn go_through_and_notify<J: JournalName, D: Device, R: Wait>(
     rt: &R,
     journal: &Journal<J, D>,
     seat: Seat<J>,
@@ -141,7 +141,7 @@ fn go_through_beside_turns<
     let done = AtomicU64::new(0);
     let (gone, turned) = join(
         rt,
-        || -> Result<(Tid, Tid), JournalError> { go_through_and_tell(rt, journal, seat, &done) },
+        || -> Result<(Tid, Tid), JournalError> { go_through_and_notify(rt, journal, seat, &done) },
         || -> bool { take_turns(rt, journal, &done) },
     );
     if turned {
@@ -155,12 +155,12 @@ fn go_through_beside_turns<
 /// result, and how many transactions are committed after the close.
 fn waited<J: JournalName + Send + Sync, D: Device + Drop + Send, R: Threads + Wait + Abort + Sync>(
     rt: &R,
-    laid: LaidJournal<D>,
+    unnamed: UnnamedJournal<D>,
     before: &Before,
 ) -> (Result<(Tid, Tid), JournalError>, u64)
-    requires name { laid.name ≡ J.name }
+    requires name { unnamed.name ≡ J.name }
 {
-    let (journal, mut seat) = laid.named::<J>();
+    let (journal, mut seat) = unnamed.named::<J>();
     let Some(other) = journal.split_seat(&mut seat) else {
         panic!(rt; "there is no further seat")
     };
@@ -185,8 +185,8 @@ fn waited_over<D: Device + Drop + Send, R: Threads + Wait + Abort + Sync>(
     device: D,
     before: &Before,
 ) -> Result<(Result<(Tid, Tid), JournalError>, u64), JournalError> {
-    let laid = laid_on(alloc, device)?;
-    Ok(waited::<Brand, _, _>(rt, laid, before))
+    let unnamed = unnamed_on(alloc, device)?;
+    Ok(waited::<Brand, _, _>(rt, unnamed, before))
 }
 
 /// Over an empty log of 33 blocks in memory; a transaction then has at most six credits.

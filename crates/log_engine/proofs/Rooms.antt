@@ -8,7 +8,7 @@ use Rattle.block_tables.specs.Effects.{EffectsValue}
 use Rattle.journal_world.specs.Engine.{Engine}
 use Rattle.journal_world.specs.Sound.{Sound}
 use Rattle.log_ledger.specs.declared.ledger.Ledger.{Ledger}
-use Rattle.log_ledger.specs.declared.plan.Plan.{Plan}
+use Rattle.log_ledger.specs.declared.plan.LogPlan.{LogPlan}
 use Rattle.log_ledger.specs.Ledger.{HasPlan, Runs, engine_of}
 use Rattle.log_ledger.specs.Text.{IsPlanOf, copies_at}
 use Rattle.log_ledger.proofs.Advancing.{same-runs}
@@ -18,7 +18,7 @@ use Rattle.log_engine.proofs.Effects.{roomy-noted, same-noted}
 use Rattle.log_engine.proofs.Plans.{same-planned}
 
 -- a plan with more room has the same entries
-roomy-plan : (entries : List (ℕ × Entry)) (plan new : Plan) → new.copies.items ≡ plan.copies.items → new.revokes.items ≡ plan.revokes.items →
+roomy-plan : (entries : List (ℕ × Entry)) (plan new : LogPlan) → new.copies.items ≡ plan.copies.items → new.revokes.items ≡ plan.revokes.items →
     IsPlanOf entries plan → IsPlanOf entries new
 roomy-plan entries plan new copies revokes is = record {
   copies = ap (copies_at entries) copies ∙ is.copies;
@@ -26,7 +26,7 @@ roomy-plan entries plan new copies revokes is = record {
 }
 
 -- so do ledger, plan and table with more room
-pub roomy-engine : (W honest : Type 0) (shape : Shape) (disk : Disk) (l new : Ledger) (plan roomy : Plan) (table wide : EffectsValue) →
+pub roomy-engine : (W honest : Type 0) (shape : Shape) (disk : Disk) (l new : Ledger) (plan roomy : LogPlan) (table wide : EffectsValue) →
     ((s : Shape) → engine_of s new ≡ engine_of s l) → new.ring ≡ l.ring → new.pending ≡ l.pending → new.kept.items ≡ l.kept.items →
     roomy.copies.items ≡ plan.copies.items → roomy.revokes.items ≡ plan.revokes.items → wide.effects ≡ table.effects →
     Runs shape l × W × (honest → Sound (engine_of shape l) disk) × (honest → KeepsClean (engine_of shape l) disk)

@@ -28,7 +28,7 @@ use checkpoint::Pending;
 use journal_model::{Area, Batch, BlockNo, JournalError, LogLayout};
 use journal_world::Stage;
 use log_format::Super;
-use log_ledger::{Due, Ledger, Plan, Progress, TextWriter};
+use log_ledger::{Due, Ledger, LogPlan, Progress, TextWriter};
 use recovery::Opened;
 use std::alloc::Global;
 use std::marker::Model;
@@ -42,7 +42,7 @@ pub struct Engine<D: Device> {
     pub(crate) device: D,
     pub(crate) ledger: Ledger,
     /// The plan of the batch being committed.
-    pub(crate) plan: Plan,
+    pub(crate) plan: LogPlan,
     /// The last effect on each block of the batches handed over.
     pub(crate) effects: LastEffects,
     pub(crate) writer: TextWriter,
@@ -90,7 +90,7 @@ impl<D: Device> Engine<D> {
         Ok(Engine {
             device,
             ledger: Ledger::new(alloc, superblock, next.0, pending),
-            plan: Plan::new(alloc),
+            plan: LogPlan::new(alloc),
             effects: LastEffects::new(alloc),
             writer,
         })

@@ -216,7 +216,7 @@ journal-stays start end b v run begins =
     let last =
     run-held P b run.synced end run.behind
     (handed-among since run.behind b v (λ move among. Contains-append_right run.between run.behind move among))
-    run.leads run.alone_behind (synced, synced-held P b run.unsynced.below run.synced.below unsynced.safe syncs) in
+    run.leads run.alone_after (synced, synced-held P b run.unsynced.below run.synced.below unsynced.safe syncs) in
     record {
       holds = last.1;
       reads = λ epoch u running now read. safe-reads P b end.below epoch u last.0.safe now read;

@@ -62,7 +62,7 @@ pub record IsSynced (start : JournalWorld) (b : ℕ) (v : List ℕ) (end : Journ
   pub leads : Leads synced behind end
   pub unstopped : AllByRecursion IsNoStop between
   pub alone : LeaveAlone b written between unsynced leads_on
-  pub alone_behind : LeaveAlone b synced behind end leads
+  pub alone_after : LeaveAlone b synced behind end leads
 
 abbrev pub since_write : (start : JournalWorld) (b : ℕ) (v : List ℕ) (end : JournalWorld) → IsSynced start b v end → List Move
 since_write start b v end run = run.between ++ run.behind

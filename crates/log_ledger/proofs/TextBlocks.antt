@@ -11,7 +11,7 @@ use Rattle.journal_model.specs.Transaction.{copied, revoked}
 use Rattle.log_model.proofs.OwnTextEntries.{revoked_below}
 use Rattle.journal_world.specs.Engine.{block_at}
 use Rattle.log_format.specs.Size.{FitRevokeBlock}
-use Rattle.log_ledger.specs.declared.plan.Plan.{Plan}
+use Rattle.log_ledger.specs.declared.plan.LogPlan.{LogPlan}
 use Rattle.log_ledger.specs.Text.{IsPlanOf, IsStored, IsWholeCopy, bytes_in, copies_at, copy_at, entry_at}
 use Rattle.log_ledger.proofs.Copies.{at-place, entry-there, length-at, long-there, map-at, map-part}
 
@@ -33,7 +33,7 @@ whole-entry size Revoke some full = absurd (omega arith)
 some-bytes : (l : Layout) → IsLayout l → (0 < l.block_size) × (header_bytes ≤ l.block_size)
 some-bytes l taken = (omega (arith, taken.0), omega (arith, taken.0))
 
-module _ (entries : List (ℕ × Entry)) (plan : Plan) (is : IsPlanOf entries plan) where
+module _ (entries : List (ℕ × Entry)) (plan : LogPlan) (is : IsPlanOf entries plan) where
   -- as many copies as the plan has places
   pub count-copies : length plan.copies.items ≡ length (copied entries)
   count-copies = sym (length-at entries plan.copies.items) ∙ ap length is.copies

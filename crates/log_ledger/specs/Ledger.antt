@@ -11,7 +11,7 @@ use Rattle.journal_world.specs.Checkpoint.{IsFrom, IsPending}
 use Rattle.journal_world.specs.Engine.{Engine, due_blocks}
 use Rattle.journal_world.specs.Sound.{IsPlain, position}
 use Rattle.log_ledger.specs.declared.ledger.Ledger.{Ledger}
-use Rattle.log_ledger.specs.declared.plan.Plan.{Plan}
+use Rattle.log_ledger.specs.declared.plan.LogPlan.{LogPlan}
 use Rattle.log_ledger.specs.Text.{IsPlanOf}
 
 abbrev pub engine_of : Shape → Ledger → Engine
@@ -40,7 +40,7 @@ pub record HasTaken (shape : Shape) (l : Ledger) : Type 0 where
   pub head : l.ring.head ≡ l.start + length (due_blocks (engine_of shape l))
 
 -- the plan of the transaction being committed, if any
-abbrev pub HasPlan : Engine → Plan → Type 0
+abbrev pub HasPlan : Engine → LogPlan → Type 0
 HasPlan e plan = (b : Batch) → slice_get e.accepted e.committed ≡ Some b → IsPlanOf b.entries plan
 
 -- entry k of transaction i is a pending copy of block b

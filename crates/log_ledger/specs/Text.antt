@@ -6,7 +6,7 @@ use Rattle.log_model.specs.Escape.{escaped}
 use Rattle.journal_model.specs.Layout.{IsLayout, Layout, begins_with_magic, header_bytes, tags_of}
 use Rattle.journal_model.specs.Transaction.{copied, revoked}
 use Rattle.log_format.specs.Size.{IsBlockSize}
-use Rattle.log_ledger.specs.declared.plan.Plan.{Plan}
+use Rattle.log_ledger.specs.declared.plan.LogPlan.{LogPlan}
 
 abbrev pub entry_at : List (ℕ × Entry) → ℕ → ℕ × Entry
 entry_at entries place = unwrap_or (slice_get entries place) (0, Revoke)
@@ -22,7 +22,7 @@ abbrev pub copies_at : List (ℕ × Entry) → List ℕ → List (ℕ × List �
 copies_at entries places = map (copy_at entries) places
 
 -- the places of the copies among these entries, and the blocks revoked
-pub record IsPlanOf (entries : List (ℕ × Entry)) (plan : Plan) : Type 0 where
+pub record IsPlanOf (entries : List (ℕ × Entry)) (plan : LogPlan) : Type 0 where
   pub copies : copies_at entries plan.copies.items ≡ copied entries
   pub revokes : plan.revokes.items ≡ revoked entries
 

@@ -13,7 +13,7 @@ ghost use Rattle.log_ledger.specs.Ledger.{CanRunOn, HasKept, HasPlan, Runs, engi
 
 use crate::due::Due;
 use crate::ledger::Ledger;
-use crate::plan::Plan;
+use crate::plan::LogPlan;
 use crate::progress::Progress;
 use crate::text::TextWriter;
 use journal_model::{Area, Batch, Tid};
@@ -47,7 +47,7 @@ impl Ledger {
     }
 
     /// The due call. `writer` builds the block of a write, by the batch's plan.
-    pub fn due(&self, writer: &mut TextWriter, plan: &Plan) -> Due
+    pub fn due(&self, writer: &mut TextWriter, plan: &LogPlan) -> Due
         requires can_run { CanRunOn self.now (length writer.old) }
         requires plan { (shape : Shape) → HasPlan (engine_of shape self.now) plan.now }
         ensures due { (shape : Shape) → shape.block_size ≡ length writer.old → call_of result writer.new ≡ call_due (engine_of shape self.now) }
@@ -68,7 +68,7 @@ impl Ledger {
         }
     }
 
-    fn due_block(&self, writer: &mut TextWriter, plan: &Plan, k: u64) -> Due
+    fn due_block(&self, writer: &mut TextWriter, plan: &LogPlan, k: u64) -> Due
         requires can_run { CanRunOn self.now (length writer.old) }
         requires plan { (shape : Shape) → HasPlan (engine_of shape self.now) plan.now }
         requires due { self.now.committed < length self.now.accepted.items }

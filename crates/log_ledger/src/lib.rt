@@ -13,6 +13,6 @@ mod text;
 
 pub use due::Due;
 pub use ledger::Ledger;
-pub use plan::Plan;
+pub use plan::LogPlan;
 pub use progress::Progress;
 pub use text::TextWriter;

@@ -7,19 +7,19 @@ use std::alloc::{AllocError, Global};
 
 /// Copies and revokes in the order of the entries, so that a log block is built without a search.
 #[derive(Drop)]
-pub struct Plan {
+pub struct LogPlan {
     /// The places of the copies among the entries.
     pub copies: Vec<usize>,
     /// The revoked blocks.
     pub revokes: Vec<BlockNo>,
 }
 
-impl Plan {
+impl LogPlan {
     /// The plan of no entries.
     pub fn new(alloc: Global) -> Self
         ensures { IsPlanOf [] result }
     {
-        Plan {
+        LogPlan {
             copies: Vec::new(alloc),
             revokes: Vec::new(alloc),
         }

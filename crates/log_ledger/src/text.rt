@@ -11,7 +11,7 @@ ghost use Rattle.journal_world.specs.Engine.{block_at};
 ghost use Rattle.log_ring.specs.Parts.{FitsPart, part_block};
 ghost use Rattle.log_ledger.specs.Text.{IsLong, IsPlanOf, IsStored, IsWholeCopy, copies_at, is_escaped};
 
-use crate::plan::Plan;
+use crate::plan::LogPlan;
 use journal_model::{Batch, BlockNo, Entry, LogLayout};
 use log_format::{CommitBlock, Descriptor, Header, RevokeBlock, Super, escape};
 use log_model::Tag;
@@ -74,7 +74,7 @@ impl TextWriter {
         layout: LogLayout,
         uuid: &[u8; 16],
         batch: &Batch,
-        plan: &Plan,
+        plan: &LogPlan,
         k: u64,
     )
         requires taken { IsLayout layout }
@@ -124,7 +124,7 @@ fn write_log_block(
     uuid: &[u8; 16],
     sequence: u32,
     entries: &[(BlockNo, Entry)],
-    plan: &Plan,
+    plan: &LogPlan,
     k: u64,
 )
     requires taken { IsLayout layout }
@@ -157,7 +157,7 @@ fn write_part(
     uuid: &[u8; 16],
     sequence: u32,
     entries: &[(BlockNo, Entry)],
-    plan: &Plan,
+    plan: &LogPlan,
     part: Part,
 )
     requires taken { IsLayout layout }

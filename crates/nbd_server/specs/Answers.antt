@@ -26,9 +26,9 @@ pub record IsOwedTo (D : Type 0) (r : Request) (stopped : ℕ) (due : DueValue) 
   pub all : CoversAll D due.upto
 
 -- the owed answer: a success, only if the seen mark covers the number, or an error
-pub data Settles (due : DueValue) (seen : ℕ) (reply : List ℕ) (is_committed : Bool) : Type 0 where
-  AsCommitted : due.upto ≤ seen → reply ≡ simple_reply 0 due.cookie → is_committed ≡ true → Settles due seen reply is_committed
-  AsRefused : (e : ℕ) → e ≢ 0 → reply ≡ simple_reply e due.cookie → is_committed ≡ false → Settles due seen reply is_committed
+pub data Releases (due : DueValue) (seen : ℕ) (reply : List ℕ) (is_committed : Bool) : Type 0 where
+  AsCommitted : due.upto ≤ seen → reply ≡ simple_reply 0 due.cookie → is_committed ≡ true → Releases due seen reply is_committed
+  AsRefused : (e : ℕ) → e ≢ 0 → reply ≡ simple_reply e due.cookie → is_committed ≡ false → Releases due seen reply is_committed
 
 -- a change with some bytes did as it says: it wrote its bytes or zeros, or revoked the blocks that lie whole in its range. Any other
 -- request did nothing

@@ -1,6 +1,6 @@
 //! The task that waits for commits, and gives the answers owed after them.
 ghost use Rattle.std.specs.Prelude.{◌≡◌, ◌++◌, [], ◌∷◌, OnOk};
-ghost use Rattle.nbd_server.specs.Answers.{Settles};
+ghost use Rattle.nbd_server.specs.Answers.{Releases};
 
 use crate::done::{Committed, Done};
 use crate::replies::{Answer, Due, Output, Reply, error_of};
@@ -33,7 +33,7 @@ impl<O: Write + Drop> Flusher<'_, O> {
         session: &mut Session<'_, J, D, R>,
     ) -> Done {
         let mut committed = Vec::new(self.alloc);
-        let end = self.settle_all(rt, session, &mut committed);
+        let end = self.release_all(rt, session, &mut committed);
         Done {
             requests: 0,
             upto: Tid(0),
@@ -43,7 +43,7 @@ impl<O: Write + Drop> Flusher<'_, O> {
     }
 
     /// As `run`, and records answers.
-    fn settle_all<J: JournalName, D: Device, R: Record, W: Wait>(
+    fn release_all<J: JournalName, D: Device, R: Record, W: Wait>(
         &self,
         rt: &W,
         session: &mut Session<'_, J, D, R>,
@@ -53,10 +53,10 @@ impl<O: Write + Drop> Flusher<'_, O> {
             let Ok(due) = self.owed.recv(rt) else {
                 break;
             };
-            let (reply, is_committed) = settle(rt, session, &due);
+            let (reply, is_committed) = release(rt, session, &due);
             self.out.give(rt, Answer::Now(reply))?;
             if is_committed && committed.len() < self.keep {
-                note(committed, &due)?;
+                register(committed, &due)?;
             }
         }
         Ok(())
@@ -64,7 +64,7 @@ impl<O: Write + Drop> Flusher<'_, O> {
 }
 
 /// Records an answer.
-fn note(committed: &mut Vec<Committed>, due: &Due) -> io::Result<()>
+fn register(committed: &mut Vec<Committed>, due: &Due) -> io::Result<()>
     ensures { OnOk result (committed.new.items ≡ committed.old.items ++ record { cookie = due.now.cookie; upto = due.now.upto } ∷ []) }
 {
     let answer = Committed {
@@ -78,12 +78,12 @@ fn note(committed: &mut Vec<Committed>, due: &Due) -> io::Result<()>
 }
 
 /// Waits for the commit of an owed answer. Returns the answer, and whether it is a success, which needs a receipt.
-pub fn settle<J: JournalName, D: Device, R: Record, W: Wait>(
+pub fn release<J: JournalName, D: Device, R: Record, W: Wait>(
     rt: &W,
     session: &mut Session<'_, J, D, R>,
     due: &Due,
 ) -> (Reply, bool)
-    ensures { Settles due.now session.new.seat.seen result.0 result.1 }
+    ensures { Releases due.now session.new.seat.seen result.0 result.1 }
 {
     match Receipt::wait_for(rt, session, due.upto()) {
         Ok(receipt) => (Reply::committed(due, &receipt), true),

@@ -17,6 +17,6 @@ mod serving;
 pub use answering::{answer, change, perform, read_reply};
 pub use done::{Committed, Done};
 pub use export::Export;
-pub use flusher::settle;
+pub use flusher::release;
 pub use replies::{Answer, Due, Output, ReadReply, Reply};
 pub use serving::{Served, serve};

@@ -11,7 +11,7 @@ use crate::replies::Output;
 use block_device::Device;
 use crossbeam_channel::bounded;
 use journal_model::{JournalError, Tid};
-use shared_journal::{JournalName, LaidJournal, Parts, Record};
+use shared_journal::{JournalName, Parts, Record, UnnamedJournal};
 use std::alloc::{AllocError, Global};
 use std::io::{Read, Write};
 use std::sync::Wait;
@@ -67,20 +67,20 @@ pub fn serve<
 >(
     rt: &W,
     alloc: Global,
-    laid: LaidJournal<D, R>,
+    unnamed: UnnamedJournal<D, R>,
     export: Export<'_>,
     keep: usize,
     input: I,
     out: &Output<O>,
 ) -> Result<Served<D, R>, (Parts<D, R>, JournalError)>
-    ensures closed { IfOk result (λ s. IsEndedBy D.state D.honest laid.name.capacity laid.name.shape s.parts.device (R.transactions s.parts.sealed) s.parts.committed s.closed) }
+    ensures closed { IfOk result (λ s. IsEndedBy D.state D.honest unnamed.name.capacity unnamed.name.shape s.parts.device (R.transactions s.parts.sealed) s.parts.committed s.closed) }
     ensures err { IfErr result (λ e. ServeRefused e.1) }
 {
     let tasks = match parts(alloc, export, keep, input, out) {
         Ok(tasks) => tasks,
         Err(_) => Vec::new(alloc),
     };
-    let done = match do_tasks(rt, alloc, laid, tasks, &OpenGate) {
+    let done = match do_tasks(rt, alloc, unnamed, tasks, &OpenGate) {
         Ok(done) => done,
         Err(e) => return Err(e),
     };

@@ -21,7 +21,7 @@ use Rattle.journal_steps.specs.Direct.{DirectSyncRefused, DirectWriteRefused}
 use Rattle.journal_steps.specs.Direct.DirectSyncRefused.{SyncAborted, SyncFailed}
 use Rattle.journal_steps.specs.Direct.DirectWriteRefused.{WriteAborted, WriteOutside, WriteNotDirect, WriteFailed}
 use Rattle.journal_steps.specs.Handles.{KeepsHandles}
-use Rattle.journal_steps.specs.Journal.{CheckTurnDid, CheckTurnRefused, Does, FailsAndTells, NewestRefused, NotesRead, ReadRefused, ReadsNewest, Requests, TurnDid, TurnRefused}
+use Rattle.journal_steps.specs.Journal.{CheckTurnDid, CheckTurnRefused, Does, FailsAndNotifies, NewestRefused, RegistersRead, ReadRefused, ReadsNewest, Requests, TurnDid, TurnRefused}
 use Rattle.journal_steps.specs.Journal.CheckTurnRefused.{CheckAborted, CheckFailed}
 use Rattle.journal_steps.specs.Journal.NewestRefused.{NewestAborted, NewestOutside, NewestRevoked, NewestFailed}
 use Rattle.journal_steps.specs.Journal.ReadRefused.{ReadKeptOut, ReadRevoked, ReadUnnoted, ReadFailed}
@@ -118,7 +118,7 @@ module _ {D : Type 0} (state : D → DeviceState) (old new : JournalValue D) whe
       Spends f b h next → MayGo f (open_own h steps) g (open_own next (steps ++ revoke_step h.number b ∷ []))
   revoke h next b steps kept did spends = revokes f g h next b steps kept did.front spends
 
-  pub read : (h : HandleValue) (b : ℕ) (v : List ℕ) (steps : List Step) → NotesRead state old h b v new →
+  pub read : (h : HandleValue) (b : ℕ) (v : List ℕ) (steps : List Step) → RegistersRead state old h b v new →
       MayGo f (open_own h steps) g (open_own h (steps ++ read_step h.number b v ∷ []))
   read h b v steps noted =
       subst (λ (k : Front). MayGo f (open_own h steps) k (open_own h (steps ++ read_step h.number b v ∷ []))) (sym noted.front) (reads f h b v steps)
@@ -177,8 +177,8 @@ module _ {D : Type 0} (state : D → DeviceState) (old new : JournalValue D) whe
           (cases_eq own.tid f.running.tid)
 
   -- The front learns of a failure.
-  told : (fault : Event) → FailsAndTells state fault old new → (mid : Front) → mid ≡ f → g ≡ aborting mid → AllStillKnow f g
-  told fault fails mid is tells = made-beside f (aborting f) g (tells ∙ ap aborting is) refl refl refl refl
+  told : (fault : Event) → FailsAndNotifies state fault old new → (mid : Front) → mid ≡ f → g ≡ aborting mid → AllStillKnow f g
+  told fault fails mid is notifies = made-beside f (aborting f) g (notifies ∙ ap aborting is) refl refl refl refl
 
   pub turn : (t : Turn) → TurnDid state t old new → AllStillKnow f g
   turn IdleTurn did = same-front f g (ap (λ (v : JournalValue D). v.journal.front) did.1)
@@ -193,7 +193,7 @@ module _ {D : Type 0} (state : D → DeviceState) (old new : JournalValue D) whe
   refused_turn e (WasAborted was same) = same-front f g (ap (λ (v : JournalValue D). v.journal.front) same)
   refused_turn e (RingIsShort due short same) = same-front f g (ap (λ (v : JournalValue D). v.journal.front) same)
   refused_turn e (MemoryIsShort due room same) = same-front f g (ap (λ (v : JournalValue D). v.journal.front) same)
-  refused_turn e (DeviceFailed fails faults) = told CommitFault fails fails.mid.front fails.fails.front fails.tells.front
+  refused_turn e (DeviceFailed fails faults) = told CommitFault fails fails.mid.front fails.fails.front fails.notifies.front
 
   pub check_turn : (t : CheckTurn) → CheckTurnDid state t old new → AllStillKnow f g
   check_turn IdleCheck did = same-front f g (ap (λ (j : Journal). j.front) did.1)
@@ -202,7 +202,7 @@ module _ {D : Type 0} (state : D → DeviceState) (old new : JournalValue D) whe
 
   pub refused_check_turn : (e : JournalError) → CheckTurnRefused state old new e → AllStillKnow f g
   refused_check_turn e (CheckAborted was same stays faults) = same-front f g (ap (λ (j : Journal). j.front) same)
-  refused_check_turn e (CheckFailed fails faults) = told CheckpointFault fails fails.mid.front fails.fails.front fails.tells.front
+  refused_check_turn e (CheckFailed fails faults) = told CheckpointFault fails fails.mid.front fails.fails.front fails.notifies.front
 
   pub refused_read : (h : HandleValue) (b : ℕ) (e : JournalError) → ReadRefused state old h b new e → AllStillKnow f g
   refused_read h b e (ReadKeptOut out same) = same-front f g (ap (λ (v : JournalValue D). v.journal.front) same)

@@ -1,5 +1,5 @@
 -- The lemmas that other crates cite.
-pub mod Bearing
+pub mod Confirming
 pub mod Becoming
 pub mod Calls
 -- The others.

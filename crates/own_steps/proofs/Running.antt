@@ -24,9 +24,9 @@ use Rattle.own_steps.specs.declared.own.HandleStage.{HandleStage}
 use Rattle.own_steps.specs.declared.own.HandleStage.TheVariants.{Open, Stopped, Asked}
 use Rattle.own_steps.specs.declared.own.OwnSteps.{OwnSteps}
 use Rattle.own_steps.specs.Knowing.{actor}
-use Rattle.own_steps.specs.Own.{BearsOut, IsOwn, credits_of, open_own, steps_by, stopped_own}
+use Rattle.own_steps.specs.Own.{Confirms, IsOwn, credits_of, open_own, steps_by, stopped_own}
 use Rattle.own_steps.specs.Run.{HasMade, Runs, block_steps}
-use Rattle.own_steps.proofs.Bearing.{bears_out}
+use Rattle.own_steps.proofs.Confirming.{confirms}
 use Rattle.own_steps.proofs.Becoming.{extend-own, found-open, joins, read-own, same-left, stop-own, touch-own}
 use Rattle.own_steps.proofs.Keeping.{others-know}
 
@@ -222,8 +222,8 @@ made-all old new disk after (event ∷ events) own kept runs is =
     (all.0, subst (λ (l : List Step). IsOwn new.front (record own { steps = l; stage = all.0 })) list all.1)
 
 -- A receipt is confirmed at any stage that its holder knows.
-of-any-stage : (committed : ℕ) (ts : History) (own : OwnSteps) (stage : HandleStage) → BearsOut committed ts own →
-    BearsOut committed ts (record own { stage = stage })
+of-any-stage : (committed : ℕ) (ts : History) (own : OwnSteps) (stage : HandleStage) → Confirms committed ts own →
+    Confirms committed ts (record own { stage = stage })
 of-any-stage committed ts own stage bears = record {
   before = bears.before;
   transaction = bears.transaction;
@@ -240,11 +240,11 @@ of-any-stage committed ts own stage bears = record {
 -- From the join on.
 pub from-join : (old mid new : Journal) (disk between after : Disk) (n : ℕ) (events : List Event) → KeepsHandles old.front →
     Happens old disk (FrontStep (Join n)) mid between → Runs mid between events new after → Agrees new → old.front.running.tid ≤ new.front.mark →
-    BearsOut new.engine.committed (transactions new.front)
+    Confirms new.engine.committed (transactions new.front)
     (stopped_own (next_handle old.front) old.front.running.tid (steps_by (next_handle old.front) (flat_map block_steps events)))
 from-join old mid new disk between after n events kept join runs agrees told =
     let own : OwnSteps = open_own (record { number = next_handle old.front; tid = old.front.running.tid; left = n }) [] in
     let first : IsOwn mid.front own = (joins old.front mid.front n kept join.front).own own refl in
     let all = made-all mid new between after events own (handles-kept old mid disk between (FrontStep (Join n)) join kept) runs first in
     let last : OwnSteps = record own { steps = steps_by own.number (flat_map block_steps events); stage = all.0 } in
-    of-any-stage new.engine.committed (transactions new.front) last Stopped (bears_out new last agrees all.1 told)
+    of-any-stage new.engine.committed (transactions new.front) last Stopped (confirms new last agrees all.1 told)

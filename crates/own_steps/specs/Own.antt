@@ -62,7 +62,7 @@ asked_own handle tid steps = record { number = handle; tid = tid; steps = steps;
 
 -- A record with this many committed transactions confirms a receipt: the handle is recorded once, in the committed transaction of that
 -- number. Its steps are exactly these, in order, in that transaction and in the whole record.
-pub record BearsOut (committed : ℕ) (ts : History) (own : OwnSteps) : Type 0 where
+pub record Confirms (committed : ℕ) (ts : History) (own : OwnSteps) : Type 0 where
   pub before : History
   pub transaction : Transaction
   pub behind : History

@@ -13,7 +13,7 @@ ghost use Rattle.journal_steps.specs.Handles.{KeepsHandles};
 ghost use Rattle.journal_steps.specs.Journal.{Agrees};
 ghost use Rattle.own_steps.specs.declared.own.OwnSteps.{OwnSteps};
 ghost use Rattle.own_steps.specs.Knowing.{MayAdd, MayGo, actor};
-ghost use Rattle.own_steps.specs.Own.{BearsOut, IsOwn, open_own, steps_by, stopped_own};
+ghost use Rattle.own_steps.specs.Own.{Confirms, IsOwn, open_own, steps_by, stopped_own};
 ghost use Rattle.own_steps.specs.Run.{HasMade, Runs, block_steps};
 
 /// Each step preserves the facts of every holder but the one whose handle makes it.
@@ -59,9 +59,9 @@ pub fn a_handle_that_has_not_stopped_is_open()
 {}
 
 /// The record confirms each receipt.
-pub fn the_record_bears_out_a_receipt()
+pub fn the_record_confirms_a_receipt()
     ensures { (j : Journal) (own : OwnSteps) → Agrees j → IsOwn j.front own → own.tid ≤ j.front.mark →
-        BearsOut j.engine.committed (transactions j.front) own }
+        Confirms j.engine.committed (transactions j.front) own }
 {}
 
 /// Whatever events follow a join: once the handle's transaction is acknowledged, the record confirms that the handle has exactly the steps
@@ -70,6 +70,6 @@ pub fn the_record_has_what_a_handle_did()
     ensures { (old mid new : Journal) (disk between after : Disk) (n : ℕ) (events : List Event) → KeepsHandles old.front →
         Happens old disk (FrontStep (Join n)) mid between → Runs mid between events new after → Agrees new →
         old.front.running.tid ≤ new.front.mark →
-        BearsOut new.engine.committed (transactions new.front)
+        Confirms new.engine.committed (transactions new.front)
         (stopped_own (next_handle old.front) old.front.running.tid (steps_by (next_handle old.front) (flat_map block_steps events))) }
 {}

@@ -22,12 +22,12 @@ others-read : (disk : Disk) (b m : ℕ) (v : List ℕ) → (b ≡ m → ⊥) →
 others-read disk b m v other = let apart : (m == b) ≡ false = grind (arith, nat_tests) in rw apart refl
 
 -- home after writes of these copies: a block reads as one of its copies, or has none and reads as before
-pub record IsBehindWrites (copies : BlockCopies) (old disk : Disk) (b : ℕ) : Type 0 where
+pub record IsAfterWrites (copies : BlockCopies) (old disk : Disk) (b : ℕ) : Type 0 where
   pub reads : Contains copies (b, (disk Home b).reads) ⊎ (((v : List ℕ) → Contains copies (b, v) → ⊥) × ((disk Home b).reads ≡ (old Home b).reads))
 
 -- one copy is written before the others
-behind-more : (c : ℕ × List ℕ) (cs : BlockCopies) (old disk : Disk) (b : ℕ) → IsBehindWrites cs (written old Home c.0 c.1) disk b → IsBehindWrites (c ∷ cs) old disk b
-behind-more c cs old disk b is =
+after-more : (c : ℕ × List ℕ) (cs : BlockCopies) (old disk : Disk) (b : ℕ) → IsAfterWrites cs (written old Home c.0 c.1) disk b → IsAfterWrites (c ∷ cs) old disk b
+after-more c cs old disk b is =
     elim is.reads [
       | inl among ↦ record { reads = inl (contains-behind c cs (b, (disk Home b).reads) among) }
       | inr (none, same) ↦
@@ -48,10 +48,10 @@ behind-more c cs old disk b is =
     ]
 
 -- so it is for writes of any copies
-pub behind-writes : (copies : BlockCopies) (disk : Disk) (b : ℕ) → IsBehindWrites copies disk (disk_after (writes_home copies) disk) b
-behind-writes [] disk b = record { reads = inr (λ v among. contains-none (b, v) among, refl) }
-behind-writes (c ∷ cs) disk b =
-    behind-more c cs disk (disk_after (writes_home cs) (written disk Home c.0 c.1)) b (behind-writes cs (written disk Home c.0 c.1) b)
+pub after-writes : (copies : BlockCopies) (disk : Disk) (b : ℕ) → IsAfterWrites copies disk (disk_after (writes_home copies) disk) b
+after-writes [] disk b = record { reads = inr (λ v among. contains-none (b, v) among, refl) }
+after-writes (c ∷ cs) disk b =
+    after-more c cs disk (disk_after (writes_home cs) (written disk Home c.0 c.1)) b (after-writes cs (written disk Home c.0 c.1) b)
 
 -- writes home leave the log
 pub copies-log : (copies : BlockCopies) (disk : Disk) (n : ℕ) → disk_after (writes_home copies) disk Log n ≡ disk Log n
@@ -63,4 +63,4 @@ pub copies-replayed : (count : ℕ) (texts : List Text) (disk : Disk) →
     IsReplayed count texts (reading disk Home) (reading (disk_after (writes_home (home_copies texts)) disk) Home)
 copies-replayed count texts disk b below =
     ⊎_elim (λ among. inl (home-copies-newest texts b _ among)) (λ none. inr (home-copies-all texts b none.0, none.1))
-    (behind-writes (home_copies texts) disk b).reads
+    (after-writes (home_copies texts) disk b).reads

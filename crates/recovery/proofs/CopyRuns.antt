@@ -18,7 +18,7 @@ use Rattle.log_scan.specs.Finding.{log_block}
 use Rattle.log_scan.specs.Passing.{StandAt}
 use Rattle.recovery.specs.Calls.{HasBegun, HasMade, writes_home}
 use Rattle.recovery.specs.Choice.{chosen, goes_by}
-use Rattle.recovery.specs.Gather.{TablesValue, chosen_behind, copy_calls}
+use Rattle.recovery.specs.Gather.{TablesValue, chosen_after, copy_calls}
 use Rattle.recovery.proofs.ChoiceSteps.{chosen-append}
 use Rattle.recovery.proofs.CopiesReplayed.{copies-log}
 use Rattle.recovery.proofs.MadeCalls.{begun-front, made-begun, made-joins}
@@ -53,17 +53,17 @@ writes-append xs ys = map-append _ xs ys
 
 -- of a descriptor's first k copies, those that go home
 abbrev pub chosen_first : TablesValue → ℕ → ℕ → List Tag → List (List ℕ) → ℕ → List (ℕ × List ℕ)
-chosen_first tables tid place tags blocks k = chosen_behind tables tid place (take k tags) (take k blocks)
+chosen_first tables tid place tags blocks k = chosen_after tables tid place (take k tags) (take k blocks)
 
 module _ (tables : TablesValue) (tid place : ℕ) (tags : List Tag) (blocks : List (List ℕ)) (same : length tags ≡ length blocks) where
   -- those before copy k, then the others
   pub chosen-split : (k : ℕ) → k ≤ length tags →
-      chosen_behind tables tid place tags blocks
-      ≡ chosen_first tables tid place tags blocks k ++ chosen_behind tables tid (place + k) (drop k tags) (drop k blocks)
+      chosen_after tables tid place tags blocks
+      ≡ chosen_first tables tid place tags blocks k ++ chosen_after tables tid (place + k) (drop k tags) (drop k blocks)
   chosen-split k below =
       let few : length (take k tags) ≡ k = length-take-le k tags below in
       let many : length (take k blocks) ≡ k = length-take-le k blocks (omega arith) in
-      ap₂ (λ (ts : List Tag) (bs : List (List ℕ)). chosen_behind tables tid place ts bs) (sym (take-append-drop k tags)) (sym (take-append-drop k blocks))
+      ap₂ (λ (ts : List Tag) (bs : List (List ℕ)). chosen_after tables tid place ts bs) (sym (take-append-drop k tags)) (sym (take-append-drop k blocks))
       ∙ ap (chosen tables.revokes tables.copies tid place) (tagged-append (take k tags) (drop k tags) (take k blocks) (drop k blocks) (few ∙ sym many))
       ∙ chosen-append tables.revokes tables.copies tid place (tagged (take k tags) (take k blocks)) (tagged (drop k tags) (drop k blocks))
       ∙ ap (λ (n : ℕ). chosen_first tables tid place tags blocks k ++ chosen tables.revokes tables.copies tid (place + n) (tagged (drop k tags) (drop k blocks)))
@@ -79,7 +79,7 @@ module _ (tables : TablesValue) (tid place : ℕ) (tags : List Tag) (blocks : Li
         let many : length (take k blocks) ≡ k = length-take-le k blocks (omega arith) in
         let there : tag ≡ get_or tags k tag = let got = slice_get-get_or tags k tag below in cc in
         let also : block ≡ get_or blocks k block = let got = slice_get-get_or blocks k block (omega arith) in cc in
-        ap₂ (λ (ts : List Tag) (bs : List (List ℕ)). chosen_behind tables tid place ts bs) (take-more_read tags k tag below there) (take-more_read blocks k block (omega arith) also)
+        ap₂ (λ (ts : List Tag) (bs : List (List ℕ)). chosen_after tables tid place ts bs) (take-more_read tags k tag below there) (take-more_read blocks k block (omega arith) also)
         ∙ ap (chosen tables.revokes tables.copies tid place) (tagged-append (take k tags) (tag ∷ []) (take k blocks) (block ∷ []) (few ∙ sym many))
         ∙ chosen-append tables.revokes tables.copies tid place (tagged (take k tags) (take k blocks)) (tagged (tag ∷ []) (block ∷ []))
         ∙ ap (λ (n : ℕ). chosen_first tables tid place tags blocks k ++ chosen tables.revokes tables.copies tid (place + n) (tagged (tag ∷ []) (block ∷ [])))
@@ -110,13 +110,13 @@ module _ (tables : TablesValue) (tid place : ℕ) (tags : List Tag) (blocks : Li
 
       -- which may fail
       pub one-begun : (old mid new : DeviceState) → HasMade (writes_home (chosen_first tables tid place tags blocks k)) old mid →
-          HasBegun (writes_home ((tag.block, unescaped tag.escaped block) ∷ [])) mid new → HasBegun (writes_home (chosen_behind tables tid place tags blocks)) old new
+          HasBegun (writes_home ((tag.block, unescaped tag.escaped block) ∷ [])) mid new → HasBegun (writes_home (chosen_after tables tid place tags blocks)) old new
       one-begun old mid new made one =
           let whole = ap writes_home (chosen-split (k + 1) (omega arith))
-          ∙ writes-append (chosen_first tables tid place tags blocks (k + 1)) (chosen_behind tables tid (place + (k + 1)) (drop (k + 1) tags) (drop (k + 1) blocks)) in
+          ∙ writes-append (chosen_first tables tid place tags blocks (k + 1)) (chosen_after tables tid (place + (k + 1)) (drop (k + 1) tags) (drop (k + 1) blocks)) in
           subst (λ (calls : List Call). HasBegun calls old new) (sym whole)
           (begun-front (writes_home (chosen_first tables tid place tags blocks (k + 1)))
-          (writes_home (chosen_behind tables tid (place + (k + 1)) (drop (k + 1) tags) (drop (k + 1) blocks))) old new
+          (writes_home (chosen_after tables tid (place + (k + 1)) (drop (k + 1) tags) (drop (k + 1) blocks))) old new
           (subst (λ (calls : List Call). HasBegun calls old new) (sym one-goes)
           (made-begun (writes_home (chosen_first tables tid place tags blocks k)) (writes_home ((tag.block, unescaped tag.escaped block) ∷ [])) old mid new made one)))
 

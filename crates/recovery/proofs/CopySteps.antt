@@ -13,7 +13,7 @@ use Rattle.journal_world.specs.Call.{Call}
 use Rattle.log_scan.specs.Passing.{StandAt}
 use Rattle.recovery.specs.Calls.{HasBegun, HasMade, writes_home}
 use Rattle.recovery.specs.Choice.{goes_by}
-use Rattle.recovery.specs.Gather.{TablesValue, chosen_behind, copy_calls}
+use Rattle.recovery.specs.Gather.{TablesValue, chosen_after, copy_calls}
 use Rattle.recovery.proofs.CopyRuns.{chosen_first, copy-listed, one-begun, one-made, one-stays}
 
 -- an element of the first n
@@ -63,7 +63,7 @@ module _
 
     -- or fails in it
     pub step-begun : goes_by tables.revokes tables.copies tid (place + k) tag.block ≡ true → (new : DeviceState) →
-        HasBegun (copy_calls s (reading mid.disk) at tag) mid new → HasBegun (writes_home (chosen_behind tables tid place (take count all) blocks)) old new
+        HasBegun (copy_calls s (reading mid.disk) at tag) mid new → HasBegun (writes_home (chosen_after tables tid place (take count all) blocks)) old new
     step-begun goes new one =
         one-begun tables tid place (take count all) blocks as-many k tag stored within tagged-so stands goes old mid new made
         (subst (λ (calls : List Call). HasBegun calls mid new) listed one)

@@ -21,7 +21,7 @@ use Rattle.log_scan.specs.Scanning.{IsChainOf}
 use Rattle.log_scan.proofs.ScanSteps.{passed-count, passed-none}
 use Rattle.block_tables.specs.Copies.{copies_of}
 use Rattle.recovery.specs.Choice.{chosen_all, goes_by}
-use Rattle.recovery.specs.Gather.{TablesValue, chosen_behind, count_chosen, tables_of}
+use Rattle.recovery.specs.Gather.{TablesValue, chosen_after, count_chosen, tables_of}
 use Rattle.recovery.specs.HomeCopies.{home_copies}
 use Rattle.recovery.proofs.Beginnings.{is-chain}
 use Rattle.recovery.proofs.GatherRuns.{count-tagged, texts_so}
@@ -35,13 +35,13 @@ one-or-none false x xs = omega arith
 
 -- a descriptor's copies that go home are as many as its tags count
 pub count-behind : (tables : TablesValue) (tid place : ℕ) (tags : List Tag) (blocks : List (List ℕ)) → length tags ≡ length blocks →
-    length (chosen_behind tables tid place tags blocks) ≡ count_chosen tables tid place tags
+    length (chosen_after tables tid place tags blocks) ≡ count_chosen tables tid place tags
 count-behind tables tid place [] [] same = refl
 count-behind tables tid place [] (b ∷ blocks) same = absurd (omega arith)
 count-behind tables tid place (tag ∷ tags) [] same = absurd (omega arith)
 count-behind tables tid place (tag ∷ tags) (b ∷ blocks) same =
     let rest : length tags ≡ length blocks = omega arith in
-    one-or-none (goes_by tables.revokes tables.copies tid place tag.block) _ (chosen_behind tables tid (suc place) tags blocks)
+    one-or-none (goes_by tables.revokes tables.copies tid place tag.block) _ (chosen_after tables tid (suc place) tags blocks)
     ∙ ap (λ (n : ℕ). (if goes_by tables.revokes tables.copies tid place tag.block then 1 else 0) + n) (count-behind tables tid (suc place) tags blocks rest)
 
 -- whether the copy at a place counts
@@ -133,9 +133,9 @@ module _ (s : Super) (limit : ℕ) (image : Image) (from to : Cursor) (transacti
     counts-copies tags n tid more size number below same passed is =
         let own : List (ℕ × List ℕ) = chosen_so tables s.s_sequence so.texts so.pieces in
         let split : chosen_so tables s.s_sequence so.texts (so.pieces ++ Copies passed.block tags passed.copies ∷ [])
-        ≡ own ++ chosen_behind tables tid place tags passed.copies =
+        ≡ own ++ chosen_after tables tid place tags passed.copies =
         so-piece tables s.s_sequence so.texts so.pieces (Copies passed.block tags passed.copies)
-        ∙ ap₂ (λ (t p : ℕ). own ++ chosen_behind tables t p tags passed.copies) (sym (number ∙ ap (λ (k : ℕ). s.s_sequence + k) counted)) (sym so.place_is) in
+        ∙ ap₂ (λ (t p : ℕ). own ++ chosen_after tables t p tags passed.copies) (sym (number ∙ ap (λ (k : ℕ). s.s_sequence + k) counted)) (sym so.place_is) in
         record {
           texts = so.texts;
           pieces = so.pieces ++ Copies passed.block tags passed.copies ∷ [];
@@ -148,7 +148,7 @@ module _ (s : Super) (limit : ℕ) (image : Image) (from to : Cursor) (transacti
               omega arith;
           count_is =
               ap₂ (λ (a b : ℕ). a + b) so.count_is (is ∙ sym (count-behind tables tid place tags passed.copies (sym (passed.stand.count ∙ size))))
-              ∙ sym (length-append own (chosen_behind tables tid place tags passed.copies)) ∙ ap length (sym split);
+              ∙ sym (length-append own (chosen_after tables tid place tags passed.copies)) ∙ ap length (sym split);
         }
 
     module _ (chain : List Text) (are : IsChainOf s limit image chain) (all : transactions ≡ length chain) where

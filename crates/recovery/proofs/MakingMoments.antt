@@ -48,8 +48,8 @@ each-as P Q old new weaker each = record {
 }
 
 -- moments, then a call that changed nothing
-pub behind-stays : (P : Disk → Type 0) (a b c : DeviceState) → EachMoment P a b → Stays b c → EachMoment P a c
-behind-stays P a b c each stays = each-joins P a b c each (each-stays P b c stays each.now)
+pub after-stays : (P : Disk → Type 0) (a b c : DeviceState) → EachMoment P a b → Stays b c → EachMoment P a c
+after-stays P a b c each stays = each-joins P a b c each (each-stays P b c stays each.now)
 
 -- nothing was done yet
 pub zeroing-none : (zeros : List ℕ) (maxlen : ℕ) (old : DeviceState) → EachMoment (IsZeroingMoment zeros maxlen old.disk) old old

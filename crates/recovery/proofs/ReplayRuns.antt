@@ -25,7 +25,7 @@ use Rattle.log_scan.proofs.ScanSteps.{passed-count, passed-none}
 use Rattle.block_tables.specs.Copies.{copies_of}
 use Rattle.recovery.specs.Calls.{HasBegun, HasMade, writes_home}
 use Rattle.recovery.specs.Choice.{chosen, chosen_all, unfinished}
-use Rattle.recovery.specs.Gather.{TablesValue, chosen_behind, tables_of}
+use Rattle.recovery.specs.Gather.{TablesValue, chosen_after, tables_of}
 use Rattle.recovery.specs.HomeCopies.{home_copies}
 use Rattle.recovery.proofs.Beginnings.{IsBeginning, begins-chain, is-chain}
 use Rattle.recovery.proofs.ChoiceSteps.{chosen_all-append, chosen_all-push, chosen-append, chosen-push}
@@ -178,18 +178,18 @@ module _
     module _ (tags : List Tag) (n tid : ℕ) (size : n ≡ length tags) (number : tid ≡ s.s_sequence + from.transactions) (passed : CopiesPassed s limit image so.texts so.pieces tags from.position n to) where
       -- a descriptor adds the writes of its chosen copies
       more-chosen : chosen_so tables s.s_sequence so.texts (so.pieces ++ Copies passed.block tags passed.copies ∷ [])
-          ≡ chosen_so tables s.s_sequence so.texts so.pieces ++ chosen_behind tables tid place tags passed.copies
+          ≡ chosen_so tables s.s_sequence so.texts so.pieces ++ chosen_after tables tid place tags passed.copies
       more-chosen =
           so-piece tables s.s_sequence so.texts so.pieces (Copies passed.block tags passed.copies)
-          ∙ ap₂ (λ (t p : ℕ). chosen_so tables s.s_sequence so.texts so.pieces ++ chosen_behind tables t p tags passed.copies)
+          ∙ ap₂ (λ (t p : ℕ). chosen_so tables s.s_sequence so.texts so.pieces ++ chosen_after tables t p tags passed.copies)
           (sym (number ∙ ap (λ (k : ℕ). s.s_sequence + k) counted)) (sym so.count)
 
       more-calls : writes_home (chosen_so tables s.s_sequence so.texts (so.pieces ++ Copies passed.block tags passed.copies ∷ []))
-          ≡ writes_home (chosen_so tables s.s_sequence so.texts so.pieces) ++ writes_home (chosen_behind tables tid place tags passed.copies)
-      more-calls = ap writes_home more-chosen ∙ writes-append (chosen_so tables s.s_sequence so.texts so.pieces) (chosen_behind tables tid place tags passed.copies)
+          ≡ writes_home (chosen_so tables s.s_sequence so.texts so.pieces) ++ writes_home (chosen_after tables tid place tags passed.copies)
+      more-calls = ap writes_home more-chosen ∙ writes-append (chosen_so tables s.s_sequence so.texts so.pieces) (chosen_after tables tid place tags passed.copies)
 
       pub replays-copies : from.transactions < transactions → to.transactions ≡ from.transactions → (next new : DeviceState) → Stays mid next →
-          HasMade (writes_home (chosen_behind tables tid place tags passed.copies)) next new → Replays s limit image to transactions (place + n) tables old new
+          HasMade (writes_home (chosen_after tables tid place tags passed.copies)) next new → Replays s limit image to transactions (place + n) tables old new
       replays-copies below same next new stays made = record {
         texts = so.texts;
         pieces = so.pieces ++ Copies passed.block tags passed.copies ∷ [];
@@ -202,21 +202,21 @@ module _
             omega arith;
         made =
             subst (λ (calls : List Call). HasMade calls old new) (sym more-calls)
-            (made-joins (writes_home (chosen_so tables s.s_sequence so.texts so.pieces)) (writes_home (chosen_behind tables tid place tags passed.copies)) old next new
+            (made-joins (writes_home (chosen_so tables s.s_sequence so.texts so.pieces)) (writes_home (chosen_after tables tid place tags passed.copies)) old next new
             (made-stays (writes_home (chosen_so tables s.s_sequence so.texts so.pieces)) old mid next so.made stays) made);
       }
 
       -- a failure among them leaves writes begun
       pub replays-begun : (chain : List Text) → IsChainOf s limit image chain → transactions ≡ length chain → tables ≡ tables_of s.s_sequence chain →
           from.transactions < transactions → to.transactions ≡ from.transactions → (next new : DeviceState) → Stays mid next →
-          HasBegun (writes_home (chosen_behind tables tid place tags passed.copies)) next new → HasBegun (writes_home (home_copies chain)) old new
+          HasBegun (writes_home (chosen_after tables tid place tags passed.copies)) next new → HasBegun (writes_home (home_copies chain)) old new
       replays-begun chain are all tables_are below same next new stays begun =
           let is = begins-chain (layout_of s) limit s.s_sequence (omega arith) (lap (ring_of s) image s.s_start) so.texts
           (so.pieces ++ Copies passed.block tags passed.copies ∷ []) to.transactions to.position passed.passed chain are.begins (omega arith) in
           let rest = so-beginning tables s.s_sequence so.texts (so.pieces ++ Copies passed.block tags passed.copies ∷ []) chain is in
           chain-begun tables s chain tables_are (chosen_so tables s.s_sequence so.texts (so.pieces ++ Copies passed.block tags passed.copies ∷ [])) rest.0 rest.1 old new
           (subst (λ (calls : List Call). HasBegun calls old new) (sym more-calls)
-          (made-begun (writes_home (chosen_so tables s.s_sequence so.texts so.pieces)) (writes_home (chosen_behind tables tid place tags passed.copies)) old next new
+          (made-begun (writes_home (chosen_so tables s.s_sequence so.texts so.pieces)) (writes_home (chosen_after tables tid place tags passed.copies)) old next new
           (made-stays (writes_home (chosen_so tables s.s_sequence so.texts so.pieces)) old mid next so.made stays) begun))
 
     -- the chain does not end before

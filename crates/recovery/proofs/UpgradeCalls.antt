@@ -92,8 +92,8 @@ begun-upgrade-moments shape block old new on begun =
     (subst (UpgradeReached block old.disk reached.0) (sym begun.made.disk) reached.1) reached.2)
 
 -- calls that were begun after no change
-pub begun-behind : (calls : List Call) (s t u : DeviceState) → Stays s t → HasBegun calls t u → HasBegun calls s u
-begun-behind calls s t u stays begun = made-begun [] calls s t u (made-none s t stays) begun
+pub begun-after : (calls : List Call) (s t u : DeviceState) → Stays s t → HasBegun calls t u → HasBegun calls s u
+begun-after calls s t u stays begun = made-begun [] calls s t u (made-none s t stays) begun
 
 -- all its calls are a run of the machine
 pub upgrade-leads : (shape : Shape) (block : List ℕ) (old new : Disk) → IsUpgradableOn shape block old → new ≡ disk_after (upgrade_calls block) old →

@@ -71,8 +71,8 @@ abbrev pub IsReplayRefused : (honest : Type 0) → Super → ℕ → DeviceState
 IsReplayRefused honest s transactions old new e = IsDeviceFailure old new e ⊎ ReadsOtherwise honest s transactions old new e
 
 -- the copies of a descriptor with these tags that go home by the tables, unescaped
-abbrev pub chosen_behind : TablesValue → ℕ → ℕ → List Tag → List (List ℕ) → List (ℕ × List ℕ)
-chosen_behind tables tid place tags blocks =
+abbrev pub chosen_after : TablesValue → ℕ → ℕ → List Tag → List (List ℕ) → List (ℕ × List ℕ)
+chosen_after tables tid place tags blocks =
     chosen tables.revokes tables.copies tid place (map (λ p. (p.0.block, unescaped p.0.escaped p.1)) (zip tags blocks))
 
 -- how many copies with these tags go home by the tables; `place` is the first one's

@@ -12,7 +12,7 @@ ghost use Rattle.log_scan.specs.Finding.{MakesCalls};
 ghost use Rattle.log_scan.specs.Passing.{StandAt};
 ghost use Rattle.log_scan.specs.Scanning.{IsChainOf};
 ghost use Rattle.recovery.specs.Calls.{HasBegun, HasMade, cleaning_calls, writes_home};
-ghost use Rattle.recovery.specs.Gather.{IsReplayRefused, chosen_behind, copy_calls, tables_of};
+ghost use Rattle.recovery.specs.Gather.{IsReplayRefused, chosen_after, copy_calls, tables_of};
 ghost use Rattle.recovery.specs.HomeCopies.{home_copies};
 
 use crate::gathering::{Tables, number_of};
@@ -108,9 +108,9 @@ fn write_copies<D: Device>(
     requires room { copies.place + copies.count < 2 ^ 64 }
     ensures layout { finder.new.layout ≡ finder.old.layout }
     ensures made { OnOk result (D.honest device.new → (blocks : List (List ℕ)) → StandAt log.now (reading (D.state device.old).disk) copies.position copies.count blocks →
-        HasMade (writes_home (chosen_behind tables.now copies.tid copies.place (take copies.count finder.old.tags) blocks)) (D.state device.old) (D.state device.new)) }
+        HasMade (writes_home (chosen_after tables.now copies.tid copies.place (take copies.count finder.old.tags) blocks)) (D.state device.old) (D.state device.new)) }
     ensures begun { OnErr result (D.honest device.new → (blocks : List (List ℕ)) → StandAt log.now (reading (D.state device.old).disk) copies.position copies.count blocks →
-        HasBegun (writes_home (chosen_behind tables.now copies.tid copies.place (take copies.count finder.old.tags) blocks)) (D.state device.old) (D.state device.new)) }
+        HasBegun (writes_home (chosen_after tables.now copies.tid copies.place (take copies.count finder.old.tags) blocks)) (D.state device.old) (D.state device.new)) }
     ensures faults { MatchResult result (λ _. (D.state device.new).faults ≡ (D.state device.old).faults) (IsDeviceFailure (D.state device.old) (D.state device.new)) }
     ensures log { (D.state device.new).disk LogArea ≡ (D.state device.old).disk LogArea }
     ensures calls { OnOk result (MakesCalls 0 (D.state device.old) (D.state device.new)) }

@@ -182,7 +182,7 @@ fn block_of(
 pub fn bytes<J: Runner>(alloc: Global, journal: &J, given: &str) -> Result<String, RowError> {
     let (text, lines) = cut(given, "\n")?;
     let script = given_script(alloc, text)?;
-    let device = device_behind(alloc, journal, &script)?;
+    let device = device_after(alloc, journal, &script)?;
     let (left, opened) = lines.split_once("opened\n").unwrap_or((lines, ""));
     let mut all = String::new(alloc);
     let device = write_lines(&mut all, alloc, device, left)?;
@@ -193,7 +193,7 @@ pub fn bytes<J: Runner>(alloc: Global, journal: &J, given: &str) -> Result<Strin
     Ok(all)
 }
 
-fn device_behind<J: Runner>(
+fn device_after<J: Runner>(
     alloc: Global,
     journal: &J,
     script: &Script,

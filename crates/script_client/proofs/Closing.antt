@@ -10,7 +10,7 @@ use Rattle.log_epochs.specs.EngineWorld.{Phase}
 use Rattle.log_epochs.specs.EngineWorld.Phase.{Closed, Running, Shut}
 use Rattle.log_epochs.specs.JournalPromise.{IsClosed}
 use Rattle.log_epochs.specs.JournalWorld.{JournalWorld, Leads}
-use Rattle.log_epochs.proofs.Leading.{leads-behind}
+use Rattle.log_epochs.proofs.Leading.{leads-after}
 use Rattle.journal_steps.specs.Values.{JournalValue}
 use Rattle.group_commit.specs.Close.{CloseDid, CloseRefused, EndsWith, IsSealedInClose}
 use Rattle.group_commit.specs.Close.CloseDid.{ClosesLog, StaysClean}
@@ -61,7 +61,7 @@ ends-ended Fact operations old before after sealed committed shown phase led end
       written = led.written;
       answered = led.answered;
       leads =
-          leads-behind led.start world (end after.shape) led.moves ends.comes.moves led.leads
+          leads-after led.start world (end after.shape) led.moves ends.comes.moves led.leads
           (subst (λ (s : Shape). Leads world ends.comes.moves (end s)) (sym shape) on);
       greatest = led.greatest;
       sealed_is = ends.sealed_is;

@@ -25,7 +25,7 @@ use Rattle.journal_steps.specs.Direct.DirectSyncRefused.{SyncAborted, SyncFailed
 use Rattle.journal_steps.specs.Direct.DirectWriteRefused.{WriteAborted, WriteFailed, WriteNotDirect, WriteOutside}
 use Rattle.group_commit.specs.Extension.{Extends, RestartRefused, Restarts, Starts}
 use Rattle.journal_front.specs.Front.{IsOpenHandle}
-use Rattle.journal_steps.specs.Journal.{CheckTurnDid, CheckTurnRefused, Does, FailsAndTells, ReadRefused, Requests, TurnDid, TurnRefused}
+use Rattle.journal_steps.specs.Journal.{CheckTurnDid, CheckTurnRefused, Does, FailsAndNotifies, ReadRefused, Requests, TurnDid, TurnRefused}
 use Rattle.journal_steps.specs.Journal.CheckTurnRefused.{CheckAborted, CheckFailed}
 use Rattle.journal_steps.specs.Journal.ReadRefused.{ReadFailed, ReadKeptOut, ReadRevoked, ReadUnnoted}
 use Rattle.journal_steps.specs.Journal.TurnRefused.{DeviceFailed, MemoryIsShort, RingIsShort, WasAborted}
@@ -156,11 +156,11 @@ turn-comes Fact operations state old new shown (Committed tid) did shape led =
 
 -- a step in which the device failed, and of which the front was then told, is two moves
 fault-comes : (Fact : Shape → Disk → Type 0) (operations : List Operation) {D : Type 0} (state : D → DeviceState) (old new : JournalValue D) (shown : Option ℕ) (fault : Event)
-    → WritesOnly operations fault → FailsAndTells state fault old new → (state new.device).shape ≡ (state old.device).shape → HasComeTo Fact operations state old shown
+    → WritesOnly operations fault → FailsAndNotifies state fault old new → (state new.device).shape ≡ (state old.device).shape → HasComeTo Fact operations state old shown
     → HasComeTo Fact operations state new shown
 fault-comes Fact operations state old new shown fault only is shape led =
     goes Fact operations AbortMark is.mid new.journal (state new.device) (state new.device) shown (λ directs written. written)
-    (goes Fact operations fault old.journal is.mid (state old.device) (state new.device) shown only led is.fails shape) is.tells refl
+    (goes Fact operations fault old.journal is.mid (state old.device) (state new.device) shown only led is.fails shape) is.notifies refl
 
 refused-comes : (Fact : Shape → Disk → Type 0) (operations : List Operation) {D : Type 0} (state : D → DeviceState) (old new : JournalValue D) (shown : Option ℕ) (e : JournalError) → TurnRefused state old new e
     → (state new.device).shape ≡ (state old.device).shape → HasComeTo Fact operations state old shown → HasComeTo Fact operations state new shown

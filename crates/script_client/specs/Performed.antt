@@ -14,7 +14,7 @@ use Rattle.journal_steps.specs.declared.turn.CheckTurn.TheVariants.{Idle as Idle
 use Rattle.journal_steps.specs.declared.turn.Turn.{Turn as CommitTurn}
 use Rattle.journal_steps.specs.declared.turn.Turn.TheVariants.{Idle as IdleTurn, Waiting as WaitingTurn}
 use Rattle.journal_steps.specs.Direct.{DirectSyncRefused, DirectWriteRefused}
-use Rattle.journal_steps.specs.Journal.{CheckTurnDid, CheckTurnRefused, Does, NotesRead, ReadRefused, Requests, TurnDid, TurnRefused}
+use Rattle.journal_steps.specs.Journal.{CheckTurnDid, CheckTurnRefused, Does, RegistersRead, ReadRefused, Requests, TurnDid, TurnRefused}
 use Rattle.journal_steps.specs.Values.{JournalValue}
 use Rattle.group_commit.specs.Extension.{EndsHandle, Extends, ExtensionRefused, RestartRefused, Restarts, StartRefused, Starts}
 use Rattle.journal_model.specs.declared.status.Status.{Status as TicketStatus}
@@ -81,7 +81,7 @@ WritesBlock state b bytes outcome h left old new = OrRefused outcome
 -- a block is read through a handle and the read noted; the outcome is its first eight bytes
 abbrev pub ReadsBlock : {D : Type 0} → (D → DeviceState) → (honest : D → Type 0) → ℕ → Outcome → HandleValue → (old new : JournalValue D) → Type 0
 ReadsBlock state honest b outcome h old new = OrRefused outcome
-    ((v : List ℕ) × (outcome ≡ Begins (block_from 8 v)) × NotesRead state old h b v new × (honest new.device → Does state old (ReadBlock h.number b v) new))
+    ((v : List ℕ) × (outcome ≡ Begins (block_from 8 v)) × RegistersRead state old h b v new × (honest new.device → Does state old (ReadBlock h.number b v) new))
     (λ e. ReadRefused state old h b new e ⊎ ((e ≡ Memory) × (new ≡ old)))
 
 -- an operation through an open handle: a write, a revoke, an extension, or a read

@@ -9,7 +9,7 @@ ghost use Rattle.journal_script.specs.Named.{IsDirectOf};
 ghost use Rattle.group_commit.specs.Extension.{EndsHandle, Extends, ExtensionRefused, RestartRefused, Restarts, StartRefused, Starts};
 ghost use Rattle.group_commit.specs.Values.{StatusIs};
 ghost use Rattle.journal_steps.specs.Direct.{DirectSyncRefused, DirectWriteRefused};
-ghost use Rattle.journal_steps.specs.Journal.{CheckTurnDid, CheckTurnRefused, Does, NotesRead, ReadRefused, Requests, TurnDid, TurnRefused};
+ghost use Rattle.journal_steps.specs.Journal.{CheckTurnDid, CheckTurnRefused, Does, RegistersRead, ReadRefused, Requests, TurnDid, TurnRefused};
 
 use block_device::Device;
 use group_commit::{CheckTurn, Handle, Journal, Parts, Receipt, Status, Ticket, Turn};
@@ -224,7 +224,7 @@ impl<'a, D: Device + Drop, H: HomeFact> Client<'a, D, H> {
     ) -> Result<(), JournalError>
         requires { length into.old ≡ (D.state self.old.journal.device).shape.block_size }
         ensures ok { OnOk result (D.honest self.new.journal.device → Does D.state self.old.journal (ReadBlock handle.old.number block into.new) self.new.journal) }
-        ensures noted { OnOk result (NotesRead D.state self.old.journal handle.old block into.new self.new.journal) }
+        ensures noted { OnOk result (RegistersRead D.state self.old.journal handle.old block into.new self.new.journal) }
         ensures err { IfErr result (ReadRefused D.state self.old.journal handle.old block self.new.journal) }
         ensures handle { handle.new ≡ handle.old }
         ensures rest { IsSameButJournal self.old self.new }

@@ -12,9 +12,9 @@ use Rattle.script_client.proofs.Telling.{stays}
 use Rattle.script_run.specs.Disks.{disk_behind, run_state}
 
 -- what led to the device led to its disk
-pub led-behind : (Fact : Shape → Disk → Type 0) (operations : List Operation) (sealed : History) (shown : Option ℕ) (device : FailOnce (StopAt MemState)) (left : MemState) → left ≡ disk_behind device
+pub led-after : (Fact : Shape → Disk → Type 0) (operations : List Operation) (sealed : History) (shown : Option ℕ) (device : FailOnce (StopAt MemState)) (left : MemState) → left ≡ disk_behind device
     → IsLedTo Fact operations (run_state device) sealed shown → IsLedTo Fact operations (state_of left) sealed shown
-led-behind Fact operations sealed shown device left is to =
+led-after Fact operations sealed shown device left is to =
     let inside : IsLedTo Fact operations (state_of (disk_behind device)) sealed shown = record {
       journal = to.journal;
       led = stays Fact operations to.journal to.journal (run_state device) (state_of (disk_behind device)) shown to.led refl refl refl;

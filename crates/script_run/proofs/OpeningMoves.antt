@@ -13,7 +13,7 @@ use Rattle.log_epochs.specs.JournalWorld.Move.{Below}
 use Rattle.log_epochs.specs.JournalWorld.PinsAtMost.{PinnedAt, Unpinned}
 use Rattle.log_epochs.specs.OpeningRun.{IsMoment}
 use Rattle.script_client.specs.Told.{running_world}
-use Rattle.log_epochs.proofs.Leading.{leads-behind, leads-more}
+use Rattle.log_epochs.proofs.Leading.{leads-after, leads-more}
 use Rattle.log_epochs.proofs.OpeningMoments.{moment-comes}
 
 -- the world after a stop that left this image, with this disk and phase now
@@ -70,7 +70,7 @@ module _ (start : JournalWorld) (opening : Disk) (j : Journal) (shape : Shape) (
         phase = comes.phase;
         is = record {
           moves = reached.moves ++ comes.moves;
-          leads = leads-behind start (at old Shut) (at disk comes.phase) reached.moves comes.moves reached.leads
+          leads = leads-after start (at old Shut) (at disk comes.phase) reached.moves comes.moves reached.leads
               (subst (λ (e : Option Epoch). Leads (at old Shut) comes.moves (record (at old Shut) { below = record (at old Shut).below { disk = disk; phase = comes.phase; epoch = e } })) stays
               comes.leads);
         };

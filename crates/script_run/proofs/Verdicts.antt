@@ -38,7 +38,7 @@ use Rattle.std.specs.BTreeSet.{keys}
 use Rattle.journal_script.specs.declared.script.NamedBlocks.{NamedBlocks}
 use Rattle.script_run.specs.declared.stops.Stops.{Stops}
 use Rattle.script_run.specs.Left.{IsCrashOf, IsRunTo, IsVerdictBy}
-use Rattle.script_run.specs.Reopening.{IsOpeningVerdict, IsSecondVerdict, IsVerdictBehindStop}
+use Rattle.script_run.specs.Reopening.{IsOpeningVerdict, IsSecondVerdict, IsVerdictAfterStop}
 use Rattle.script_run.specs.Reopening.IsOpeningVerdict.{Once, Twice}
 use Rattle.script_run.specs.Verdict.{IsAsLeft, IsImageVerdict, IsLeftBy, IsRight, owed}
 use Rattle.script_run.proofs.Judging.{HasLimit-from_tells}
@@ -177,7 +177,7 @@ once-right operations device keep sealed shown image named right to direct leave
 twice-right : (operations : List Operation) (device : MemState) (keep : List ℕ) (sealed : History) (shown : Option ℕ) (image : MemState) (k : ℕ) (keep_again : List ℕ) (named : NamedBlocks) (right : Bool)
     → IsLedTo IsZeroHome operations (state_of device) sealed shown → HasDirects operations (keys named.directs)
     → Leaves (state_of device).disk (crashed keep device) → IsCrashOf device keep image
-    → IsVerdictBehindStop (state_of image) k keep_again sealed shown named right → right ≡ true
+    → IsVerdictAfterStop (state_of image) k keep_again sealed shown named right → right ≡ true
 twice-right operations device keep sealed shown image k keep_again named right to direct leaves crash behind =
     let disk : (state_of image).disk ≡ disk_of (crashed keep device) = crash-disk device keep image crash in
     let later : MemState = behind.device in

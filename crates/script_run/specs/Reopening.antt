@@ -70,7 +70,7 @@ pub record IsVerdictWithoutStop (image : DeviceState) (k : ℕ) (sealed : Histor
   pub verdict : IsImageVerdict image.shape (reading image.disk) sealed shown named right
 
 -- a device stopped at write `k` of an opening of this image, and this is the verdict on its crash image
-pub record IsVerdictBehindStop (image : DeviceState) (k : ℕ) (keep : List ℕ) (sealed : History) (shown : Option ℕ) (named : NamedBlocks) (right : Bool) : Type 0 where
+pub record IsVerdictAfterStop (image : DeviceState) (k : ℕ) (keep : List ℕ) (sealed : History) (shown : Option ℕ) (named : NamedBlocks) (right : Bool) : Type 0 where
   pub was_clean : Bool
   pub limit : ℕ
   pub count : ℕ
@@ -82,4 +82,4 @@ pub record IsVerdictBehindStop (image : DeviceState) (k : ℕ) (keep : List ℕ)
 -- the verdict on an image whose opening stops at write `k`, if it makes that many
 pub data IsOpeningVerdict (image : DeviceState) (k : ℕ) (keep : List ℕ) (sealed : History) (shown : Option ℕ) (named : NamedBlocks) (right : Bool) : Type 0 where
   Once : IsVerdictWithoutStop image k sealed shown named right → IsOpeningVerdict image k keep sealed shown named right
-  Twice : IsVerdictBehindStop image k keep sealed shown named right → IsOpeningVerdict image k keep sealed shown named right
+  Twice : IsVerdictAfterStop image k keep sealed shown named right → IsOpeningVerdict image k keep sealed shown named right

@@ -9,7 +9,7 @@ use crate::counts::{FailureCounts, NotRight};
 use crate::judging::{Ran, left_by, named_blocks};
 use crate::place::{Event, Place, choices};
 use crate::swept::Swept;
-use jbench_words::watch::{Step, Watch};
+use jbench_words::watch::{WatchStep, Watch};
 use journal_script::{NamedBlocks, Script};
 use script_run::Fault;
 use std::alloc::Global;
@@ -56,7 +56,7 @@ fn fail_calls<J: Swept>(
     let calls = counts.calls;
     for before in 0..calls {
         let call = before + 1;
-        watch.goes_on(Step::FailsAt { call, calls });
+        watch.goes_on(WatchStep::FailsAt { call, calls });
         let stopped = journal.run(alloc, script, None, Some(call))?;
         let ran = Ran {
             alloc,

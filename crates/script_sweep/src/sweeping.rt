@@ -9,7 +9,7 @@ use crate::judging::{Found, Ran, copy_of, left_by, named_blocks};
 use crate::place::{Event, Place, choices};
 use crate::swept::Swept;
 use block_device::MemDevice;
-use jbench_words::watch::{Step, Watch};
+use jbench_words::watch::{WatchStep, Watch};
 use journal_script::{NamedBlocks, Script};
 use recovery::Report;
 use script_run::{Attempt, Fault, OpenedImage, judge_reopened};
@@ -57,7 +57,7 @@ fn sweep_stops<J: Swept>(
     let writes = counts.writes;
     for before in 0..writes {
         let write = before + 1;
-        watch.goes_on(Step::StopsAt { write, writes });
+        watch.goes_on(WatchStep::StopsAt { write, writes });
         let stopped = journal.run(alloc, script, Some(write), None)?;
         let ran = Ran {
             alloc,

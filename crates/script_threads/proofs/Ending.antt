@@ -7,7 +7,7 @@ use Rattle.std.specs.Global.{Global}
 use Rattle.std.specs.List.{AllZip}
 use Rattle.journal_model.specs.declared.transaction.Step.{Step}
 use Rattle.journal_model.specs.Transaction.{History}
-use Rattle.own_steps.specs.Own.{BearsOut, stopped_own}
+use Rattle.own_steps.specs.Own.{Confirms, stopped_own}
 use Rattle.journal_script.specs.Clients.{HasTouchedAll, handles_of}
 use Rattle.journal_script.specs.declared.clients.ClientHandle.{ClientHandle}
 use Rattle.journal_script.specs.declared.clients.ClientScript.{ClientScript}
@@ -28,8 +28,8 @@ use Rattle.script_threads.specs.declared.told.ToldHandle.{ToldHandle}
 use Rattle.script_threads.proofs.Lists.{map-map, zip-both, zip-each, zip-through}
 
 -- What the record confirms of a receipt, in terms of the handle and transaction that it names.
-borne : (committed : ℕ) (sealed : History) (r : TicketKnown) (steps : List Step) → r.steps ≡ steps → BearsOut committed sealed (own_of_ticket r) →
-    BearsOut committed sealed (stopped_own r.ticket.handle r.ticket.tid steps)
+borne : (committed : ℕ) (sealed : History) (r : TicketKnown) (steps : List Step) → r.steps ≡ steps → Confirms committed sealed (own_of_ticket r) →
+    Confirms committed sealed (stopped_own r.ticket.handle r.ticket.tid steps)
 borne committed sealed r steps same bears = record {
   before = bears.before;
   transaction = bears.transaction;
@@ -88,7 +88,7 @@ same-steps size n handle plan is = ap (map (touch_step n)) is.touches ∙ map-ma
 served-of : (size committed : ℕ) (sealed : History) (handle : ClientHandle) (plan : HandlePlan) (told : ToldHandle) → IsPlanOf size handle plan →
     WasServed committed sealed plan.waits (λ n. planned_steps n plan) told → WasServed committed sealed handle.waits (λ n. script_steps size n handle) told
 served-of size committed sealed handle plan told is (WasAwaited r waits given tid bears) =
-    WasAwaited r (sym is.waits ∙ waits) given tid (subst (λ (ss : List Step). BearsOut committed sealed (stopped_own r.handle r.tid ss)) (same-steps size r.handle handle plan is) bears)
+    WasAwaited r (sym is.waits ∙ waits) given tid (subst (λ (ss : List Step). Confirms committed sealed (stopped_own r.handle r.tid ss)) (same-steps size r.handle handle plan is) bears)
 served-of size committed sealed handle plan told is (WasUnawaited waits none) = WasUnawaited (sym is.waits ∙ waits) none
 
 -- So was each handle of each client.

@@ -6,7 +6,7 @@ use Rattle.std.specs.List.{AllZip}
 use Rattle.journal_model.specs.declared.transaction.Step.{Step}
 use Rattle.journal_model.specs.Transaction.{History}
 use Rattle.block_device.specs.Memory.{state_of}
-use Rattle.own_steps.specs.Own.{BearsOut, stopped_own}
+use Rattle.own_steps.specs.Own.{Confirms, stopped_own}
 use Rattle.journal_script.specs.Clients.{HasTouchedAll, IsClientScriptOf, handles_of}
 use Rattle.journal_script.specs.declared.clients.ClientHandle.{ClientHandle}
 use Rattle.journal_script.specs.declared.clients.ClientScript.{ClientScript}
@@ -36,7 +36,7 @@ pub record IsTold (tid : ℕ) (receipt : Option TicketKnown) (told : ToldHandle)
 -- An awaited handle has a receipt of the transaction that it was told. The record, with this many committed transactions, confirms that the
 -- handle made exactly these steps in that transaction. Other handles have no receipt.
 pub data WasServed (committed : ℕ) (sealed : History) (waits : Bool) (steps : ℕ → List Step) (told : ToldHandle) : Type 0 where
-  Awaited : (r : ToldReceipt) → waits ≡ true → told.receipt ≡ Some r → r.tid ≡ told.tid → BearsOut committed sealed (stopped_own r.handle r.tid (steps r.handle)) →
+  Awaited : (r : ToldReceipt) → waits ≡ true → told.receipt ≡ Some r → r.tid ≡ told.tid → Confirms committed sealed (stopped_own r.handle r.tid (steps r.handle)) →
       WasServed committed sealed waits steps told
   Unawaited : waits ≡ false → told.receipt ≡ None → WasServed committed sealed waits steps told
 

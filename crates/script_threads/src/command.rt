@@ -89,14 +89,14 @@ fn serve_script<T: Threads + Wait + Sync, W: Write + Drop, E: Write + Drop>(
 {
     let mut err = err;
     match run(rt, alloc, script) {
-        Ok(Ended::Refused(clients)) => tell_refused(&clients, err),
-        Ok(Ended::Judged(verdicts)) => tell_verdicts(script, &verdicts, out),
+        Ok(Ended::Refused(clients)) => print_refused(&clients, err),
+        Ok(Ended::Judged(verdicts)) => print_verdicts(script, &verdicts, out),
         Err(e) => fault::refuse(&mut err, path, &Fault::Refused(e)),
     }
 }
 
 /// Prints each refused client, and its refusal.
-fn tell_refused<E: Write + Drop>(clients: &[RefusedClient], err: E) -> io::Result<Status>
+fn print_refused<E: Write + Drop>(clients: &[RefusedClient], err: E) -> io::Result<Status>
     ensures { IfOk result (λ status. status ≡ Refused) }
 {
     let mut err = err;
@@ -113,7 +113,7 @@ fn tell_refused<E: Write + Drop>(clients: &[RefusedClient], err: E) -> io::Resul
 }
 
 /// Prints the counts and the verdicts.
-fn tell_verdicts<W: Write + Drop>(
+fn print_verdicts<W: Write + Drop>(
     script: &ClientScript,
     verdicts: &Verdicts,
     out: W,
@@ -125,15 +125,15 @@ fn tell_verdicts<W: Write + Drop>(
     writeln!(out, "clients {}", script.clients.len())?;
     writeln!(out, "handles {}", script.handles())?;
     writeln!(out, "receipts {}", script.waits())?;
-    tell_verdict(&mut out, "credits", verdicts.credits)?;
-    tell_verdict(&mut out, "receipts", verdicts.receipts)?;
-    tell_verdict(&mut out, "order", verdicts.order)?;
-    tell_verdict(&mut out, "recovery", verdicts.recovery)?;
+    print_verdict(&mut out, "credits", verdicts.credits)?;
+    print_verdict(&mut out, "receipts", verdicts.receipts)?;
+    print_verdict(&mut out, "order", verdicts.order)?;
+    print_verdict(&mut out, "recovery", verdicts.recovery)?;
     out.flush()?;
     Ok(status_of(verdicts))
 }
 
-fn tell_verdict<W: Write>(out: &mut W, name: &str, right: bool) -> io::Result<()> {
+fn print_verdict<W: Write>(out: &mut W, name: &str, right: bool) -> io::Result<()> {
     writeln!(out, "verdict {name} {}", if right { "ok" } else { "false" })
 }
 

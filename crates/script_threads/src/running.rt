@@ -17,7 +17,7 @@ use block_device::MemDevice;
 use journal_model::{JournalError, Sealed};
 use journal_script::{ClientScript, NamedBlocks};
 use script_run::{Record, empty_disk};
-use shared_journal::{JournalName, LaidJournal, Parts, Tally, lay};
+use shared_journal::{JournalName, UnnamedJournal, Parts, Tally, create};
 use std::alloc::{AllocError, Global};
 use std::collections::BTreeSet;
 use std::marker::Brand;
@@ -58,8 +58,8 @@ pub fn run<W: Threads + Wait + Sync>(
     let disk = empty_disk(alloc, &script.measures)?;
     let plans = plans_of(alloc, &script.clients, script.measures.block_size)?;
     let named = named_blocks(alloc, script)?;
-    let laid = laid_on(alloc, disk)?;
-    run_on::<Brand, W>(rt, alloc, laid, &plans, &named)
+    let unnamed = unnamed_on(alloc, disk)?;
+    run_on::<Brand, W>(rt, alloc, unnamed, &plans, &named)
 }
 
 /// The blocks that the clients of a script touch; none is written directly.
@@ -75,13 +75,13 @@ fn named_blocks(alloc: Global, script: &ClientScript) -> Result<NamedBlocks, All
 }
 
 /// An unnamed journal on the log of a disk.
-fn laid_on(
+fn unnamed_on(
     alloc: Global,
     disk: MemDevice,
-) -> Result<LaidJournal<MemDevice, Vec<Sealed>>, JournalError> {
+) -> Result<UnnamedJournal<MemDevice, Vec<Sealed>>, JournalError> {
     match recovery::open(alloc, disk) {
-        Ok(opened) => match lay(alloc, opened) {
-            Ok(laid) => Ok(laid),
+        Ok(opened) => match create(alloc, opened) {
+            Ok(unnamed) => Ok(unnamed),
             Err((_, e)) => Err(e),
         },
         Err((_, e)) => Err(e),
@@ -92,14 +92,14 @@ fn laid_on(
 fn run_on<J: JournalName + Send + Sync, W: Threads + Wait + Sync>(
     rt: &W,
     alloc: Global,
-    laid: LaidJournal<MemDevice, Vec<Sealed>>,
+    unnamed: UnnamedJournal<MemDevice, Vec<Sealed>>,
     plans: &[Vec<HandlePlan>],
     named: &NamedBlocks,
 ) -> Result<Ended, JournalError>
-    requires name { laid.name ≡ J.name }
+    requires name { unnamed.name ≡ J.name }
     ensures { IfOk result (IsEndedOn plans.now named.now) }
 {
-    let (journal, seat) = laid.named::<J>();
+    let (journal, seat) = unnamed.named::<J>();
     let capacity = journal.capacity();
     let outcome = Service::run(rt, alloc, journal, seat, plans, &OpenGate)?;
     judge(alloc, outcome, plans, capacity, named)

@@ -6,7 +6,7 @@ use block_device::{Device, MemDevice};
 use format_rows::RowError;
 use journal_model::{Area, JournalError};
 use nbd_server::{Done, Export, Output, serve};
-use shared_journal::{LaidJournal, lay};
+use shared_journal::{UnnamedJournal, create};
 use std::alloc::Global;
 use std::fmt::Write;
 use std::io::ErrorKind;
@@ -34,10 +34,13 @@ pub fn new_log(alloc: Global) -> Result<MemDevice, RowError> {
 }
 
 /// An unnamed journal on a device's log.
-fn laid_on<D: Device + Drop>(alloc: Global, device: D) -> Result<LaidJournal<D>, JournalError> {
+fn unnamed_on<D: Device + Drop>(
+    alloc: Global,
+    device: D,
+) -> Result<UnnamedJournal<D>, JournalError> {
     match recovery::open(alloc, device) {
-        Ok(opened) => match lay(alloc, opened) {
-            Ok(laid) => Ok(laid),
+        Ok(opened) => match create(alloc, opened) {
+            Ok(unnamed) => Ok(unnamed),
             Err((_, e)) => Err(e),
         },
         Err((_, e)) => Err(e),
@@ -60,7 +63,7 @@ pub fn serve_on<D: Device + Send + Drop, T: Threads + Wait + Sync>(
     given: &Given<'_>,
     device: D,
 ) -> Result<Left<D>, RowError> {
-    let Ok(laid) = laid_on(alloc, device) else {
+    let Ok(unnamed) = unnamed_on(alloc, device) else {
         return Err(RowError::Unread);
     };
     let out = Output::new(Vec::new(alloc));
@@ -69,7 +72,7 @@ pub fn serve_on<D: Device + Send + Drop, T: Threads + Wait + Sync>(
         read_only: given.read_only,
     };
     let stream = given.stream.as_slice();
-    let Ok(served) = serve(threads, alloc, laid, export, KEEP, stream, &out) else {
+    let Ok(served) = serve(threads, alloc, unnamed, export, KEEP, stream, &out) else {
         return Err(RowError::Memory);
     };
     Ok(Left {

@@ -400,7 +400,7 @@ impl<'j, J: JournalName, R: Wait> Interpreter<'j, J, R> {
         match self.take(name) {
             Slot::Stopped(ticket) => self.wait_for(name, ticket),
             Slot::Waited(receipt) => {
-                let told = self.tell(&receipt);
+                let told = self.acknowledge_receipt(&receipt);
                 self.put(name, Slot::Waited(receipt));
                 told
             }
@@ -425,7 +425,7 @@ impl<'j, J: JournalName, R: Wait> Interpreter<'j, J, R> {
             Ok(receipt) => {
                 let mut receipt = receipt;
                 self.journal.audit(self.rt, &mut receipt);
-                let told = self.tell(&receipt);
+                let told = self.acknowledge_receipt(&receipt);
                 self.put(name, Slot::Waited(receipt));
                 told
             }
@@ -437,7 +437,7 @@ impl<'j, J: JournalName, R: Wait> Interpreter<'j, J, R> {
     }
 
     /// Notes a receipt's transaction and answers it, or answers `Aborted` if the journal is aborted.
-    fn tell(&mut self, receipt: &Receipt<J, Vec<Sealed>>) -> Outcome {
+    fn acknowledge_receipt(&mut self, receipt: &Receipt<J, Vec<Sealed>>) -> Outcome {
         if let Err(e) = self.unless_aborted() {
             return Outcome::Refused(e);
         }

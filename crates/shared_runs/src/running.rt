@@ -10,7 +10,7 @@ use recovery::Opened;
 use script_run::{
     AfterFailure, Fault, Record, RunDevice, Stopped, Stops, empty_log, judge_copied, judge_left,
 };
-use shared_journal::{Journal, JournalName, LaidJournal, Seat, lay};
+use shared_journal::{Journal, JournalName, UnnamedJournal, Seat, create};
 use std::alloc::Global;
 use std::marker::Brand;
 use std::sync::Wait;
@@ -149,8 +149,8 @@ fn done_on<R: Wait>(
     after: AfterFailure,
     out: &mut Vec<u8>,
 ) -> Result<Done, Fault> {
-    match lay(alloc, opened) {
-        Ok(laid) => done_by::<Brand, R>(rt, alloc, laid, operations, after, out),
+    match create(alloc, opened) {
+        Ok(unnamed) => done_by::<Brand, R>(rt, alloc, unnamed, operations, after, out),
         Err((_, e)) => Err(Fault::Refused(e)),
     }
 }
@@ -158,14 +158,14 @@ fn done_on<R: Wait>(
 fn done_by<J: JournalName, R: Wait>(
     rt: &R,
     alloc: Global,
-    laid: LaidJournal<RunDevice, Vec<Sealed>>,
+    unnamed: UnnamedJournal<RunDevice, Vec<Sealed>>,
     operations: &[Operation],
     after: AfterFailure,
     out: &mut Vec<u8>,
 ) -> Result<Done, Fault>
-    requires name { laid.name ≡ J.name }
+    requires name { unnamed.name ≡ J.name }
 {
-    let (journal, seat) = laid.named::<J>();
+    let (journal, seat) = unnamed.named::<J>();
     let shown = perform(rt, alloc, &journal, seat, operations, after, out);
     let parts = journal.into_single().into_parts();
     Ok(Done {

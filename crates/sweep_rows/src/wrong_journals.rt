@@ -53,7 +53,7 @@ struct Reordered {
     /// The waiting flush, if any.
     waiting: Option<Area>,
     /// Whether the last write was to the superblock.
-    behind_superblock: bool,
+    after_superblock: bool,
 }
 
 /// The first bytes of a commit block: the magic and the type.
@@ -69,7 +69,7 @@ impl Reordered {
                 lost,
                 calls: 0,
                 waiting: None,
-                behind_superblock: false,
+                after_superblock: false,
             }),
             Err(e) => Err(JournalError::from(e)),
         }
@@ -90,7 +90,7 @@ impl Reordered {
             lost: _,
             calls: _,
             waiting: _,
-            behind_superblock: _,
+            after_superblock: _,
         } = self;
         real
     }
@@ -103,7 +103,7 @@ impl Reordered {
             }
             Order::SuperblockFirst => waiting == Area::Home && area == Area::Log && n == 0,
             Order::TransactionFirst => {
-                waiting == Area::Log && self.behind_superblock && area == Area::Log && n != 0
+                waiting == Area::Log && self.after_superblock && area == Area::Log && n != 0
             }
         }
     }
@@ -136,7 +136,7 @@ impl Reordered {
         };
         if !stays {
             self.flush_waiting();
-            self.behind_superblock = area == Area::Log && n == 0;
+            self.after_superblock = area == Area::Log && n == 0;
         }
         if n < self.real.blocks(area) && bytes.len() == self.real.block_size() {
             let _ = self.real.write(area, n, bytes);
@@ -217,7 +217,7 @@ impl WrongJournal {
         failing_call: Option<u64>,
     ) -> Result<Opened<WrongDevice>, JournalError> {
         let measures = &script.measures;
-        let call = call_behind_opening(alloc, measures, failing_call)?;
+        let call = call_after_opening(alloc, measures, failing_call)?;
         let disk = empty_disk(alloc, measures)?;
         let device = self.run_device(disk, stop.unwrap_or(NEVER), call)?;
         match open(alloc, device) {
@@ -228,7 +228,7 @@ impl WrongJournal {
 }
 
 /// The number of a call, counted from 1 after the opening, as counted from before it; `NEVER` for none.
-fn call_behind_opening(
+fn call_after_opening(
     alloc: Global,
     measures: &Measures,
     call: Option<u64>,

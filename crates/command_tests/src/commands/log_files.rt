@@ -3,7 +3,7 @@ use super::{Step, first_other, text_of};
 use file_device::{FileDevice, UnknownContents};
 use jbench_files::{Cleared, make_device, open_log, open_or_make_pair};
 use jbench_logs::logs::{dump, format};
-use jbench_words::watch::{Step as CommandStep, Unwatched, Watch};
+use jbench_words::watch::{Unwatched, Watch, WatchStep as CommandStep};
 use jbench_words::words::LogPaths;
 use journal_model::Area;
 use journal_script::{DEFAULTS, Measures};

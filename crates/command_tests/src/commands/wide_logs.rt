@@ -138,7 +138,7 @@ empty sequence=1
 ];
 
 /// Commands after the seven transactions, which have the numbers 2 to 8.
-const BEHIND_LAPS: [Step; 5] = [
+const AFTER_LAPS: [Step; 5] = [
     ("jbench upgrade upgraded/log", "upgraded sequence=9\n| Fine"),
     (
         "jbench upgrade upgraded/log",
@@ -246,7 +246,7 @@ fn a_log_is_upgraded_between_two_journals(rt: HostRuntime) -> Result<(), Fail> {
         "seven transactions"
     );
     let before = fs::read(&rt, "upgraded/log")?;
-    require(&rt, &BEHIND_LAPS)?;
+    require(&rt, &AFTER_LAPS)?;
     let left = fs::read(&rt, "upgraded/log")?;
     let log = with_third_block(rt.alloc(), &left, &before)?;
     fs::write(&rt, "upgraded/log", &log)?;

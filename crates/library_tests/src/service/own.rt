@@ -3,10 +3,10 @@ ghost use Rattle.std.specs.Prelude.{◌≡◌};
 
 use super::LOG_BLOCKS;
 use crate::bytes::expect;
-use crate::logs::{formatted, laid_on};
+use crate::logs::{formatted, unnamed_on};
 use block_device::{Device, MemDevice};
 use journal_model::{BlockNo, JournalError};
-use shared_journal::{JournalName, LaidJournal, Record};
+use shared_journal::{JournalName, UnnamedJournal, Record};
 use std::alloc::Global;
 use std::marker::Brand;
 use std::sync::Wait;
@@ -65,11 +65,11 @@ impl<J: JournalName, D: Device, R: Record, G: Gate> Client<J, D, R, G> for Looke
 fn look<J: JournalName + Send + Sync, R: Threads + Wait + Sync>(
     rt: &R,
     alloc: Global,
-    laid: LaidJournal<MemDevice>,
+    unnamed: UnnamedJournal<MemDevice>,
 ) -> Result<(Vec<Result<Told, JournalError>>, bool), JournalError>
-    requires name { laid.name ≡ J.name }
+    requires name { unnamed.name ≡ J.name }
 {
-    let (journal, seat) = laid.named::<J>();
+    let (journal, seat) = unnamed.named::<J>();
     let served = match lookers(alloc) {
         Ok(lookers) => serve_clients(rt, alloc, &journal, seat, lookers, &OpenGate),
         Err(e) => Err(e),
@@ -90,8 +90,8 @@ fn run_on<R: Threads + Wait + Sync>(
     rt: &R,
     alloc: Global,
 ) -> Result<(Vec<Result<Told, JournalError>>, bool), JournalError> {
-    let laid = laid_on(alloc, formatted(alloc, LOG_BLOCKS, 64)?)?;
-    look::<Brand, _>(rt, alloc, laid)
+    let unnamed = unnamed_on(alloc, formatted(alloc, LOG_BLOCKS, 64)?)?;
+    look::<Brand, _>(rt, alloc, unnamed)
 }
 
 #[test]

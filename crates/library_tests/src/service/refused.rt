@@ -5,7 +5,7 @@ use crate::logs::BLOCK_SIZE;
 use block_device::{Device, MemDevice};
 use journal_model::{Area, JournalError, Sealed, Tid};
 use recovery::Opened;
-use shared_journal::{LaidJournal, lay};
+use shared_journal::{UnnamedJournal, create};
 use std::alloc::Global;
 use std::marker::Brand;
 use std::process::Abort;
@@ -43,22 +43,22 @@ fn opened<R: Abort>(rt: &R, alloc: Global, device: MemDevice) -> Opened<MemDevic
 }
 
 /// Makes an unnamed journal on a log, again if that is refused.
-fn laid_again<R: Abort>(
+fn unnamed_again<R: Abort>(
     rt: &R,
     alloc: Global,
     opened: Opened<MemDevice>,
-) -> LaidJournal<MemDevice, Vec<Sealed>> {
-    let opened = match lay(alloc, opened) {
-        Ok(laid) => return laid,
+) -> UnnamedJournal<MemDevice, Vec<Sealed>> {
+    let opened = match create(alloc, opened) {
+        Ok(unnamed) => return unnamed,
         Err((opened, e)) => {
             assert!(rt; e == JournalError::Memory);
             opened
         }
     };
-    let Ok(laid) = lay(alloc, opened) else {
+    let Ok(unnamed) = create(alloc, opened) else {
         panic!(rt; "a journal is refused once more")
     };
-    laid
+    unnamed
 }
 
 fn first_byte<R: Abort>(rt: &R, device: &mut MemDevice, block: u64) -> u8 {
@@ -114,8 +114,8 @@ fn a_client_without_memory_ends_alone(rt: HostRuntime) -> Result<(), Fail> {
         return Ok(());
     };
     let opened = opened(&rt, alloc, formatted(&rt, alloc));
-    let laid = laid_again(&rt, alloc, opened);
-    match try_run::<Brand, _, _, _>(&rt, alloc, laid, &plans, &OpenGate) {
+    let unnamed = unnamed_again(&rt, alloc, opened);
+    match try_run::<Brand, _, _, _>(&rt, alloc, unnamed, &plans, &OpenGate) {
         Ok((summary, device)) => {
             judge(&rt, &summary);
             judge_left(&rt, alloc, &summary, device);

@@ -2,7 +2,7 @@
 //! for.
 use super::LOG_BLOCKS;
 use crate::bytes::expect;
-use crate::logs::{formatted, laid_on};
+use crate::logs::{formatted, unnamed_on};
 use block_device::{Device, MemDevice};
 use journal_model::{BlockNo, JournalError, Status, Tid};
 use shared_journal::{JournalName, Record, Ticket, Unrecorded};
@@ -170,8 +170,8 @@ fn run<R: Threads + Wait + Sync>(
         tasks.push(Worker { alloc, job: *job })?;
     }
     let device: MemDevice = formatted(alloc, LOG_BLOCKS, HOME_BLOCKS)?;
-    let laid = laid_on::<MemDevice, Unrecorded>(alloc, device)?;
-    match do_tasks(rt, alloc, laid, tasks, &OpenGate) {
+    let unnamed = unnamed_on::<MemDevice, Unrecorded>(alloc, device)?;
+    match do_tasks(rt, alloc, unnamed, tasks, &OpenGate) {
         Ok(done) => Ok((done.answers, done.parts.committed, done.closed.is_ok())),
         Err((_, e)) => Err(e),
     }

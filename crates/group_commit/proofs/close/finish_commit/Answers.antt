@@ -3,7 +3,7 @@ use Rattle.std.proofs.lemmas.Bool.{true≢false}
 use Rattle.std.proofs.lemmas.Result.{err_from_is_err_and}
 use Rattle.journal_world.specs.declared.stage.Stage.TheVariants.{Idle}
 use Rattle.group_commit.proofs.Finishing.{commit-went, commit-wrong, went-nowhere, went-went, went-wrong}
-use Rattle.group_commit.proofs.NoRounds.{no-rounds, rounds-behind, turn-rounds}
+use Rattle.group_commit.proofs.NoRounds.{no-rounds, rounds-after, turn-rounds}
 use Rattle.group_commit.proofs.OwnCalls.{calls-after, refused-calls, same-calls, turn-calls}
 use Rattle.group_commit.proofs.TurnMoments.{each-commit, each-still, each-went}
 use Rattle.group_commit.proofs.close.finish_commit.Goals as goal
@@ -47,7 +47,7 @@ loop-journal-preserved g c =
     commit-went g.D.Device.state _ _ _ before.went.running busy c.in_ok-commit_step.ensures.ok c.commit_step.ensures.device.shape c.in_ok-commit_step.ensures.no_fault in
     record {
       went = went-went g.D.Device.state _ _ _ before.went step;
-      rounds = rounds-behind _ _ _ before.rounds (turn-rounds g.D.Device.state _ _ _ busy c.in_ok-commit_step.ensures.ok);
+      rounds = rounds-after _ _ _ before.rounds (turn-rounds g.D.Device.state _ _ _ busy c.in_ok-commit_step.ensures.ok);
       calls =
           calls-after g.D.Device.state _ _ _ before.calls
           (turn-calls g.D.Device.state _ _ _ busy c.in_ok-commit_step.ensures.ok c.commit_step.ensures.device.calls);

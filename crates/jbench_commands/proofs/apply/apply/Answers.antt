@@ -1,5 +1,5 @@
 use Rattle.jbench_commands.specs.Applying.{after_told, ending_told}
-use Rattle.jbench_commands.proofs.Unapplying.{behind-reads, only-read, unapplied-behind}
+use Rattle.jbench_commands.proofs.Unapplying.{after-reads, only-read, unapplied-after}
 use Rattle.jbench_commands.proofs.apply.apply.Goals as goal
 
 -- this device, which was only read before, was opened, and everything after that was done
@@ -25,13 +25,13 @@ returns-in-Err-clause-left g c = λ honest. only-read (g.D.Device.state c.args.d
 -- after a refused log an opening was refused
 pub returns-clause-left : goal.returns-clause-left
 returns-clause-left g c = λ honest.
-    behind-reads (g.D.Device.state c.args.device) (g.D.Device.state c.prepare.new.device) (g.D.Device.state c.in-Err-open.device) (g.D.Device.state c.refuse.new.device) c.in-Ok.ensures.stays
+    after-reads (g.D.Device.state c.args.device) (g.D.Device.state c.prepare.new.device) (g.D.Device.state c.in-Err-open.device) (g.D.Device.state c.refuse.new.device) c.in-Ok.ensures.stays
     (c.in-Err-open.ensures.moments (c.refuse.ensures.device.honest honest)) c.refuse.ensures.device.stays
 
 -- the operations' device is left
 pub returns-in-Ok-open-clause-left : goal.returns-in-Ok-open-clause-left
 returns-in-Ok-open-clause-left g c =
-    unapplied-behind g.D.Device.state g.D.Device.honest c.args.device (g.R.Read.remaining c.args.script) c.in-Ok-open.opened c.in-Ok.prepared.operations.items
+    unapplied-after g.D.Device.state g.D.Device.honest c.args.device (g.R.Read.remaining c.args.script) c.in-Ok-open.opened c.in-Ok.prepared.operations.items
     (after_told c.args.words.now.keep_going c.args.words.now.make_room) (ending_told c.args.words.now.stay) c.in-Err-apply_script.unapplied
     (λ honest. rw (← c.in-Ok.ensures.stays.shape, ← c.in-Ok.ensures.stays.disk) (c.in-Ok-open.ensures.opened honest))
     (record {

@@ -1,4 +1,4 @@
-use Rattle.jbench_commands.proofs.Staying.{behind-closed, behind-next, behind-stays, ended-stays}
+use Rattle.jbench_commands.proofs.Staying.{after-closed, after-next, after-stays, ended-stays}
 use Rattle.jbench_commands.proofs.apply.apply_operations.Goals as goal
 
 -- the device was only read since
@@ -11,18 +11,18 @@ returns-in-Ok-clause-ended g c = λ honest.
 pub returns-in-Ok-clause-closed : goal.returns-in-Ok-clause-closed
 returns-in-Ok-clause-closed g c = λ ending.
     rw c.say_end.ensures.sealed
-    (behind-closed _ c.say_end.ensures.behind ending c.say_end.ensures.device.stays c.say_end.ensures.device.honest (c.in-Ok.ensures.closed ending))
+    (after-closed _ c.say_end.ensures.after ending c.say_end.ensures.device.stays c.say_end.ensures.device.honest (c.in-Ok.ensures.closed ending))
 
 -- and its superblock has the number
 pub returns-in-Ok-clause-says : goal.returns-in-Ok-clause-says
 returns-in-Ok-clause-says g c = λ ending.
-    behind-next _ c.say_end.ensures.behind ending c.say_end.ensures.device.stays c.say_end.ensures.device.honest (c.in-Ok.ensures.closed ending)
+    after-next _ c.say_end.ensures.after ending c.say_end.ensures.device.stays c.say_end.ensures.device.honest (c.in-Ok.ensures.closed ending)
 
 -- a journal that stays is as it was left
 pub returns-in-Ok-clause-stays : goal.returns-in-Ok-clause-stays
 returns-in-Ok-clause-stays g c = λ ending honest.
     rw (c.say_end.ensures.sealed, c.say_end.ensures.acknowledged)
-    (behind-stays c.say_end.ensures.behind ending (c.in-Ok.ensures.stays ending (c.say_end.ensures.device.honest honest)))
+    (after-stays c.say_end.ensures.after ending (c.in-Ok.ensures.stays ending (c.say_end.ensures.device.honest honest)))
 
 -- the operations, and the line after them
 pub returns-in-Ok-clause-operated : goal.returns-in-Ok-clause-operated
@@ -32,7 +32,7 @@ returns-in-Ok-clause-operated g c = record {
   said = _;
   does = rw (c.say_end.ensures.sealed, c.say_end.ensures.acknowledged) c.in-Ok.ensures.outcomes;
   stays = c.say_end.ensures.device.stays;
-  behind = c.say_end.ensures.behind;
+  behind = c.say_end.ensures.after;
 }
 
 -- reads were correct at the opening

@@ -2,8 +2,8 @@ use Rattle.std.proofs.Common.{rules, ◌≡◌, ◌∙◌, ap, subst, sym}
 use Rattle.std.proofs.lemmas.Result.{IfErr-weaker, IfOk-weaker}
 use Rattle.std.specs.Prelude.{IsOk}
 use Rattle.std.specs.Io.Buffered.{line_writer_contents}
-use Rattle.jbench_commands.specs.Applying.{IsDoneBehind, after_told, ending_told}
-use Rattle.jbench_commands.specs.Unapplied.{IsUnappliedBehind}
+use Rattle.jbench_commands.specs.Applying.{IsDoneAfter, after_told, ending_told}
+use Rattle.jbench_commands.specs.Unapplied.{IsUnappliedAfter}
 use Rattle.jbench_commands.proofs.Staying.{was-ok}
 use Rattle.jbench_commands.proofs.apply.apply_script.Goals as goal
 
@@ -13,7 +13,7 @@ returns-in-Ok-apply_operations-clause-done g c =
     let did = c.in-Ok-apply_operations.ensures in
     let left = c.in-Ok-apply_operations.applied.left in
     let whole : IsOk c.in-Ok-apply_operations.applied.end →
-    IsDoneBehind g.D.Device.state g.D.Device.honest c.args.opened c.args.prepared.operations.items (after_told c.args.words.now.keep_going c.args.words.now.make_room) (ending_told c.args.words.now.stay)
+    IsDoneAfter g.D.Device.state g.D.Device.honest c.args.opened c.args.prepared.operations.items (after_told c.args.words.now.keep_going c.args.words.now.make_room) (ending_told c.args.words.now.stay)
     left.device left.sealed.items left.acknowledged (line_writer_contents g.W.Write.contents c.args.prepared.out) = λ all. record {
       begun = line_writer_contents g.W.Write.contents c.say_opened.new.out;
       opening = search rules;
@@ -39,7 +39,7 @@ returns-in-Ok-apply_operations-clause-left g c =
     IfErr-weaker c.left_of.result _ _
     (λ e is.
     subst
-    (λ left. IsUnappliedBehind g.D.Device.state g.D.Device.honest c.args.opened c.args.prepared.operations.items (after_told c.args.words.now.keep_going c.args.words.now.make_room) (ending_told c.args.words.now.stay) left)
+    (λ left. IsUnappliedAfter g.D.Device.state g.D.Device.honest c.args.opened c.args.prepared.operations.items (after_told c.args.words.now.keep_going c.args.words.now.make_room) (ending_told c.args.words.now.stay) left)
     (sym is.1)
     (record {
       begun = line_writer_contents g.W.Write.contents c.say_opened.new.out;

@@ -5,5 +5,5 @@ use Rattle.journal_sides.proofs.both.into_single.Goals as goal
 -- The record is legal if device reads were correct.
 pub of-requires-clause-legal : goal.of-requires-clause-legal
 of-requires-clause-legal g c =
-    mid-legal c.front.inside.front c.front.inside.met c.engine.inside.engine c.args.engine c.meet.new.front c.front.view_is c.meet.ensures.met.engine_is
-    (c.engine.view_is ∙ c.meet.ensures.engine) g.D.Device.honest c.front.invariant.legal
+    mid-legal c.front.inside.front c.front.inside.reconciled c.engine.inside.engine c.args.engine c.reconcile.new.front c.front.view_is c.reconcile.ensures.reconciled.engine_is
+    (c.engine.view_is ∙ c.reconcile.ensures.engine) g.D.Device.honest c.front.invariant.legal

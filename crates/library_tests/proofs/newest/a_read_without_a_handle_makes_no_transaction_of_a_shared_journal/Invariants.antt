@@ -2,4 +2,4 @@ use Rattle.library_tests.proofs.newest.a_read_without_a_handle_makes_no_transact
 
 -- the name is the unnamed journal's
 abbrev pub ghosts-only_read : goal.ghosts-only_read
-ghosts-only_read g a = record { name = a.laid.name }
+ghosts-only_read g a = record { name = a.unnamed.name }

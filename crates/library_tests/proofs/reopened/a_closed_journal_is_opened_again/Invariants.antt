@@ -2,4 +2,4 @@ use Rattle.library_tests.proofs.reopened.a_closed_journal_is_opened_again.Given 
 
 -- the name is the unnamed journal's
 abbrev pub ghosts-closed : goal.ghosts-closed
-ghosts-closed g a = record { name = a.laid.name }
+ghosts-closed g a = record { name = a.unnamed.name }

@@ -2,4 +2,4 @@ use Rattle.library_tests.proofs.service.run_on.Given as goal
 
 -- the name is the unnamed journal's
 abbrev pub ghosts-try_run : goal.ghosts-try_run
-ghosts-try_run g a = record { name = a.laid.name }
+ghosts-try_run g a = record { name = a.unnamed.name }

@@ -2,4 +2,4 @@ use Rattle.library_tests.proofs.threads.two_threads_share_a_journal.Given as goa
 
 -- the name is the unnamed journal's
 abbrev pub ghosts-shared : goal.ghosts-shared
-ghosts-shared g a = record { name = a.laid.name }
+ghosts-shared g a = record { name = a.unnamed.name }

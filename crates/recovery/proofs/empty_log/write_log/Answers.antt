@@ -6,7 +6,7 @@ use Rattle.log_format.specs.Size.{IsBlockSize}
 use Rattle.block_device.specs.State.{DeviceState}
 use Rattle.recovery.specs.Making.{IsMakingMoment}
 use Rattle.recovery.specs.Opening.{HasZeros}
-use Rattle.recovery.proofs.MakingMoments.{behind-stays, making-flush, making-named, making-zeroed}
+use Rattle.recovery.proofs.MakingMoments.{after-stays, making-flush, making-named, making-zeroed}
 use Rattle.recovery.proofs.Zeroed.{formatted}
 use Rattle.recovery.proofs.empty_log.write_log.Goals as goal
 
@@ -34,7 +34,7 @@ pub returns-in_err-flush-clause-moments : goal.returns-in_err-flush-clause-momen
 returns-in_err-flush-clause-moments g c =
     let s : DeviceState = g.D.Device.state c.args.device.now in
     let zeros = c.fill.ensures.after (λ y same. same) ∙ ap (λ (n : ℕ). replicate n 0) c.requires.block in
-    behind-stays (IsMakingMoment s.shape c.args.maxlen c.args.uuid.now c.args.wide s.disk) s (g.D.Device.state c.write_zeros.new.device) (g.D.Device.state c.flush.new.self)
+    after-stays (IsMakingMoment s.shape c.args.maxlen c.args.uuid.now c.args.wide s.disk) s (g.D.Device.state c.write_zeros.new.device) (g.D.Device.state c.flush.new.self)
     (making-zeroed s.shape c.args.maxlen c.args.uuid.now c.args.wide s (g.D.Device.state c.write_zeros.new.device)
     (rw (← zeros, ← c.from.ensures) c.write_zeros.ensures.moments))
     c.in_err-flush.ensures.err
@@ -59,7 +59,7 @@ returns-in_err-flush-2-clause-moments g c =
     let t : DeviceState = g.D.Device.state c.flush.new.self in
     let u : DeviceState = g.D.Device.state c.write.new.self in
     let zeros = c.fill.ensures.after (λ y same. same) ∙ ap (λ (n : ℕ). replicate n 0) c.requires.block in
-    behind-stays (IsMakingMoment s.shape c.args.maxlen c.args.uuid.now c.args.wide s.disk) s u (g.D.Device.state c.flush-2.new.self)
+    after-stays (IsMakingMoment s.shape c.args.maxlen c.args.uuid.now c.args.wide s.disk) s u (g.D.Device.state c.flush-2.new.self)
     (making-named s.shape c.args.maxlen c.args.uuid.now c.format.new.block c.args.wide s zeroed t u (omega (arith, c.requires.least))
     (rw (← zeros, ← c.from.ensures) c.in_ok-write_zeros.ensures.ok) c.in_ok-flush.ensures.ok.now
     (c.format.ensures ∙ ap (λ (n : ℕ). formatted_super n c.args.maxlen c.args.uuid.now c.args.wide) (c.fill.auto.self ∙ c.requires.block))

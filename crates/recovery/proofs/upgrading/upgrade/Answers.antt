@@ -3,7 +3,7 @@ use Rattle.std.proofs.lemmas.Result.{err_from_is_err_and}
 use Rattle.log_model.specs.Superblock.{Super}
 use Rattle.block_device.specs.State.{DeviceState}
 use Rattle.recovery.proofs.MadeCalls.{stays-made}
-use Rattle.recovery.proofs.UpgradeCalls.{begun-behind, begun-upgrade-moments, made-upgrade-moments, upgrade-leads}
+use Rattle.recovery.proofs.UpgradeCalls.{begun-after, begun-upgrade-moments, made-upgrade-moments, upgrade-leads}
 use Rattle.recovery.proofs.Upgrades.{fields-refused, no-log-refused, reading-refused, upgradable-on}
 use Rattle.recovery.specs.Upgrade.{upgrade_calls}
 use Rattle.recovery.specs.Upgrade.IsUpgradeBroken.{Writing}
@@ -37,7 +37,7 @@ returns-in_err-write_widened-clause-broken g c =
     (λ honest.
     Writing c.in_ok-block.block
     (upgradable-on s c.in_ok-block.block c.in_ok-block.log c.in_ok-block.ensures.well (c.in_ok-block.ensures.read (c.write_widened.ensures.honest honest)) may.0 may.1)
-    (begun-behind (upgrade_calls c.in_ok-block.block) s (g.D.Device.state c.read_super.new.device) (g.D.Device.state c.write_widened.new.device)
+    (begun-after (upgrade_calls c.in_ok-block.block) s (g.D.Device.state c.read_super.new.device) (g.D.Device.state c.write_widened.new.device)
     c.read_super.ensures.device.stays c.in_err-write_widened.ensures.begun))
 
 pub returns-in_err-write_widened-clause-moments : goal.returns-in_err-write_widened-clause-moments
@@ -46,7 +46,7 @@ returns-in_err-write_widened-clause-moments g c = λ honest.
     let may = rw c.fields.ensures at c.in_ok-may_be_upgraded.ensures.ok in
     begun-upgrade-moments s.shape c.in_ok-block.block s (g.D.Device.state c.write_widened.new.device)
     (upgradable-on s c.in_ok-block.block c.in_ok-block.log c.in_ok-block.ensures.well (c.in_ok-block.ensures.read (c.write_widened.ensures.honest honest)) may.0 may.1)
-    (begun-behind (upgrade_calls c.in_ok-block.block) s (g.D.Device.state c.read_super.new.device) (g.D.Device.state c.write_widened.new.device)
+    (begun-after (upgrade_calls c.in_ok-block.block) s (g.D.Device.state c.read_super.new.device) (g.D.Device.state c.write_widened.new.device)
     c.read_super.ensures.device.stays c.in_err-write_widened.ensures.begun)
 
 pub returns-clause-upgraded : goal.returns-clause-upgraded

@@ -4,7 +4,7 @@ use Rattle.journal_model.specs.Disk.{Disk}
 use Rattle.block_device.specs.State.{DeviceState}
 use Rattle.file_device.specs.Ahead.{HasRead}
 use Rattle.file_device.specs.Files.{file_state}
-use Rattle.file_device.proofs.KeptAhead.{failed-behind, files-leave, on-err, on-ok, read-as, read-behind, read-leaves, same-read, no-read}
+use Rattle.file_device.proofs.KeptAhead.{failed-after, files-leave, on-err, on-ok, read-as, read-after, read-leaves, same-read, no-read}
 use Rattle.file_device.proofs.device.FileDevice.read_log.Given.{Over}
 use Rattle.file_device.proofs.device.FileDevice.read_log.Goals as goal
 use Rattle.file_device.proofs.device.FileDevice.read_log.Goals.{then-goes_on+else-hand_out-2, else-goes_on}
@@ -42,7 +42,7 @@ returns-clause-bytes g c =
     on-ok c.read_block.result (λ gives agrees. gives agrees ∙ ap (λ (s : DeviceState). (s.disk Log c.args.n).reads) leaves) c.read_block.ensures.bytes
 
 pub returns-clause-ok : goal.returns-clause-ok
-returns-clause-ok g c = on-ok c.read_block.result (read-behind (so_far g c)) c.read_block.ensures.ok
+returns-clause-ok g c = on-ok c.read_block.result (read-after (so_far g c)) c.read_block.ensures.ok
 
 pub returns-clause-err : goal.returns-clause-err
-returns-clause-err g c = on-err c.read_block.result (failed-behind c.args.n (so_far g c)) c.read_block.ensures.err
+returns-clause-err g c = on-err c.read_block.result (failed-after c.args.n (so_far g c)) c.read_block.ensures.err

@@ -7,7 +7,7 @@ use Rattle.log_epochs.specs.EngineWorld.Phase.{Shut}
 use Rattle.group_commit.specs.During.{IsDuringTurns}
 use Rattle.group_commit.specs.Close.{CloseDid, CloseRefused, EndsWith}
 use Rattle.journal_steps.specs.Journal.{OpensOver}
-use Rattle.group_commit.proofs.Closed.{both-weaker, did-behind, ends-behind, err-weaker, log-refused, parts-end}
+use Rattle.group_commit.proofs.Closed.{both-weaker, did-after, ends-after, err-weaker, log-refused, parts-end}
 use Rattle.log_engine.specs.Close.MakesCloseCalls.{NoCloseCall}
 use Rattle.group_commit.proofs.OwnCalls.{calls-closed}
 use Rattle.group_commit.proofs.TurnMoments.{each-closed}
@@ -50,8 +50,8 @@ returns-in-Ok-clause-moves g c =
     (λ parts. CloseDid old.journal (state old.device).disk (g.R.Record.transactions parts.sealed) parts.committed (state parts.device).disk)
     (λ e. EndsWith mid.journal (state mid.device).disk (g.R.Record.transactions e.0.sealed) e.0.committed (state e.0.device).disk Shut)
     (λ e. EndsWith old.journal (state old.device).disk (g.R.Record.transactions e.0.sealed) e.0.committed (state e.0.device).disk Shut)
-    (λ parts did. did-behind state old mid (g.R.Record.transactions parts.sealed) parts.committed (state parts.device).disk c.finish.ensures.path did)
-    (λ e ends. ends-behind state old mid (g.R.Record.transactions e.0.sealed) e.0.committed (state e.0.device).disk Shut c.finish.ensures.path ends) c.close_log.ensures.moves
+    (λ parts did. did-after state old mid (g.R.Record.transactions parts.sealed) parts.committed (state parts.device).disk c.finish.ensures.path did)
+    (λ e ends. ends-after state old mid (g.R.Record.transactions e.0.sealed) e.0.committed (state e.0.device).disk Shut c.finish.ensures.path ends) c.close_log.ensures.moves
 
 pub returns-in-Err-clause-moves : goal.returns-in-Err-clause-moves
 returns-in-Err-clause-moves g c =
