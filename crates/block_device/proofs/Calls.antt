@@ -58,7 +58,7 @@ one_of_last : (o p : Option (List ℕ)) (v : List ℕ) → unwrap_or o (unwrap_o
 one_of_last None p v = refl
 one_of_last (Some u) p v = refl
 
--- a write left by a crash settles its block; a new one is written over it
+-- a write left by a crash is all that its block holds; a new one is written over it
 abbrev pub left_disk : Moments → Write → Moments
 left_disk m w = record { disk = with_cell m.disk w.area w.block (record { reads = w.bytes; others = [] }); past = m.past }
 
@@ -170,7 +170,7 @@ remembers-flush cs area old mid h a n = rw newest_from-push (h a n)
 pub take_call : (cs : List Call) (i : ℕ) (item c : Call) → i < length cs → item ≡ get_or cs i item → item ≡ c → take (i + 1) cs ≡ take i cs ++ c ∷ []
 take_call cs i item c low at is = take_more cs i item low ∙ ap (λ x. take i cs ++ x ∷ []) (sym at ∙ is)
 
--- settling one more call, which stands after those that are settled
+-- taking the number from one more call, which stands after those without one
 module _ (now start : List Call) (i : ℕ) (item c : Call) (low : i < length start) (e : now ≡ map unnumbered (take i start) ++ drop i start) (at : item ≡ get_or now i item) (is : item ≡ c) where
   front : List Call
   front = map unnumbered (take i start)

@@ -39,7 +39,7 @@ impl Stopped {
         self.upto
     }
 
-    /// Notes that a handle of this transaction has stopped.
+    /// Registers that a handle of this transaction has stopped.
     pub fn register(&mut self, tid: Tid)
         ensures noted { tid ≤ self.new }
         ensures kept { self.old ≤ self.new }

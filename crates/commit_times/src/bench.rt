@@ -8,7 +8,7 @@ use crate::work::{Plan, Work};
 use block_device::Device;
 use group_commit::Receipt;
 use jbench_words::fault::{self, Fault};
-use jbench_words::watch::{WatchStep, Watch};
+use jbench_words::watch::{Watch, WatchStep};
 use jbench_words::words::BenchWords;
 use journal_model::{Area, JournalError};
 use recovery::Opened;

@@ -8,10 +8,10 @@ use crate::counted::Counted;
 use crate::work::{Plan, close};
 use block_device::Device;
 use jbench_words::fault::{self, Fault};
-use jbench_words::watch::{WatchStep, Watch};
+use jbench_words::watch::{Watch, WatchStep};
 use jbench_words::words::BenchWords;
 use journal_model::{Area, JournalError};
-use shared_journal::{Journal, JournalName, UnnamedJournal, Seat, create};
+use shared_journal::{Journal, JournalName, Seat, UnnamedJournal, create};
 use std::alloc::{AllocError, Global};
 use std::collections::VecDeque;
 use std::io::Write;
@@ -101,7 +101,10 @@ fn plans(alloc: Global, copies: u64, home_blocks: u64, clients: u64) -> Result<V
     Ok(plans)
 }
 
-fn create_on<D: Device + Drop>(alloc: Global, device: D) -> Result<UnnamedJournal<D>, JournalError> {
+fn create_on<D: Device + Drop>(
+    alloc: Global,
+    device: D,
+) -> Result<UnnamedJournal<D>, JournalError> {
     match recovery::open(alloc, device) {
         Ok(opened) => match create(alloc, opened) {
             Ok(unnamed) => Ok(unnamed),

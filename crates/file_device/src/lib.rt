@@ -8,17 +8,17 @@
 mod ahead;
 mod calls;
 mod device;
+mod durability;
 mod failure;
 mod gathered;
 mod history;
 mod laws;
 mod locks;
-mod durability;
 mod unmeasured;
 
 pub use device::{Contents, FileDevice, UnknownContents};
+pub use durability::make_durable;
 pub use failure::{FailedCall, Failure};
 pub use laws::{answers_that_agree_keep_the_premise, what_is_gathered_may_be_lost};
 pub use locks::{ReadLock, Unlocked, WriteLock, lock, lock_shared};
-pub use durability::make_durable;
 pub use unmeasured::Unmeasured;

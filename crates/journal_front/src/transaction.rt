@@ -210,7 +210,7 @@ impl<R: Record> Transaction<R> {
         }
     }
 
-    /// Makes room for one `register`.
+    /// Makes room for one call of `register`.
     ///
     /// # Errors
     ///

@@ -11,5 +11,5 @@ mod worker;
 
 pub use gate::{Gate, OpenGate, Point};
 pub use held::HeldDevice;
-pub use shared::{Wake, Shared, Signals};
+pub use shared::{Shared, Signals, Wake};
 pub use worker::{Checkpointer, Committer, Round, is_half_full};

@@ -2,7 +2,10 @@
 ghost use Rattle.std.specs.Prelude.{◌≡◌};
 
 use crate::bytes::expect;
-use handle::{CommitMark, CreditPool, HandleToken, JournalName, UnnamedBoard, Raiser, Seat, TicketToken, board};
+use handle::{
+    CommitMark, CreditPool, HandleToken, JournalName, Raiser, Seat, TicketToken, UnnamedBoard,
+    board,
+};
 use journal_model::{HandleNo, Status, Tid};
 use std::marker::Brand;
 use std::process::Abort;

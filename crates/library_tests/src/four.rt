@@ -6,7 +6,7 @@ use crate::bytes::expect;
 use crate::logs::{formatted, unnamed_on};
 use block_device::{Device, MemDevice};
 use journal_model::{Area, BlockNo, HandleNo, JournalError, Op, Sealed, Step};
-use shared_journal::{Handle, Journal, JournalName, UnnamedJournal, Parts, Record, Seat, Ticket};
+use shared_journal::{Handle, Journal, JournalName, Parts, Record, Seat, Ticket, UnnamedJournal};
 use std::alloc::Global;
 use std::marker::Brand;
 use std::process::Abort;

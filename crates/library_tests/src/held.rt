@@ -6,7 +6,7 @@ use crate::bytes::expect;
 use crate::logs::{formatted, unnamed_on};
 use block_device::{Device, DeviceFault};
 use journal_model::{Area, BlockNo, JournalError};
-use shared_journal::{CheckTurn, Journal, JournalName, UnnamedJournal, Seat, Ticket, Turn};
+use shared_journal::{CheckTurn, Journal, JournalName, Seat, Ticket, Turn, UnnamedJournal};
 use std::alloc::Global;
 use std::marker::Brand;
 use std::process::Abort;

@@ -22,9 +22,9 @@ mod held;
 #[cfg(test)]
 mod logs;
 #[cfg(test)]
-mod reconciliations;
-#[cfg(test)]
 mod newest;
+#[cfg(test)]
+mod reconciliations;
 #[cfg(test)]
 mod reopened;
 #[cfg(test)]

@@ -2,7 +2,7 @@
 use block_device::{Device, MemDevice};
 use journal_model::JournalError;
 use recovery::Opened;
-use shared_journal::{UnnamedJournal, Record, create};
+use shared_journal::{Record, UnnamedJournal, create};
 use std::alloc::Global;
 
 /// Bytes of a block.

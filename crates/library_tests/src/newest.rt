@@ -184,7 +184,10 @@ fn first_shared<J: JournalName, R: Wait>(
 }
 
 /// Reads a home block and one that home lacks. Returns how many transactions are committed at the close.
-fn only_read<J: JournalName, R: Wait + Abort>(rt: &R, unnamed: UnnamedJournal<FailOnce<MemDevice>>) -> u64
+fn only_read<J: JournalName, R: Wait + Abort>(
+    rt: &R,
+    unnamed: UnnamedJournal<FailOnce<MemDevice>>,
+) -> u64
     requires name { unnamed.name ≡ J.name }
 {
     let (journal, _seat) = unnamed.named::<J>();

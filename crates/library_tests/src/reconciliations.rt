@@ -2,7 +2,7 @@
 ghost use Rattle.std.specs.Prelude.{◌≡◌, ◌≤◌};
 
 use crate::bytes::expect;
-use parts::{Follower, Reconciler, Owner, PartsName, Since, UnnamedReconciler};
+use parts::{Follower, Owner, PartsName, Reconciler, Since, UnnamedReconciler};
 use std::marker::{Brand, Model};
 use std::process::Abort;
 use std::test::Fail;
@@ -71,11 +71,17 @@ fn reconcile<J: PartsName>(
     risen
 }
 
-fn rises_between_reconciliations<J: PartsName, R: Abort>(rt: &R, unnamed: UnnamedReconciler<u64, Rises>)
+fn rises_between_reconciliations<J: PartsName, R: Abort>(
+    rt: &R,
+    unnamed: UnnamedReconciler<u64, Rises>,
+)
     requires { unnamed ≡ J.parts }
 {
     let (reconciler, reconciled, now) = unnamed.named::<J>(&0);
-    let mut last = Last { count: 0, reconciled };
+    let mut last = Last {
+        count: 0,
+        reconciled,
+    };
     let mut counter = Counter { count: 0, now };
     rise(&reconciler, &mut counter);
     rise(&reconciler, &mut counter);

@@ -2,10 +2,10 @@
 ghost use Rattle.std.specs.Prelude.{◌≡◌};
 
 use crate::bytes::expect;
-use crate::logs::{formatted, unnamed_on, opened};
+use crate::logs::{formatted, opened, unnamed_on};
 use block_device::{Device, MemDevice};
 use journal_model::{Area, BlockNo, JournalError, Sealed, Tid};
-use shared_journal::{Journal, JournalName, UnnamedJournal, Record, Seat};
+use shared_journal::{Journal, JournalName, Record, Seat, UnnamedJournal};
 use std::alloc::Global;
 use std::marker::Brand;
 use std::process::Abort;

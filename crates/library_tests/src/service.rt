@@ -7,12 +7,12 @@ mod refused;
 mod tasks;
 
 use crate::bytes::expect;
-use crate::logs::{BLOCK_SIZE, formatted, unnamed_on, create_on, opened};
+use crate::logs::{BLOCK_SIZE, create_on, formatted, opened, unnamed_on};
 use block_device::{Device, FailOnce, MemDevice};
 use gates::{Meeting, Overtaking};
 use journal_model::{Block, BlockNo, JournalError, Sealed, Tid};
 use recovery::Opened;
-use shared_journal::{JournalName, UnnamedJournal, Tally};
+use shared_journal::{JournalName, Tally, UnnamedJournal};
 use std::alloc::{AllocError, Global};
 use std::marker::Brand;
 use std::sync::Wait;

@@ -2,7 +2,7 @@
 ghost use Rattle.std.specs.Prelude.{◌≡◌, ◌≤◌, Some};
 
 use crate::bytes::expect;
-use parts::{Agreement, Fragment, SharedWhole, PartsName, UnnamedWhole, Whole};
+use parts::{Agreement, Fragment, PartsName, SharedWhole, UnnamedWhole, Whole};
 use std::marker::{Brand, Model};
 use std::process::Abort;
 use std::test::Fail;

@@ -7,7 +7,7 @@ use crate::logs::{formatted, unnamed_on};
 use block_device::{Device, MemDevice};
 use file_device::{FileDevice, UnknownContents};
 use journal_model::BlockNo;
-use shared_journal::{Journal, JournalName, UnnamedJournal, Seat, Status, Tally, Ticket, Turn};
+use shared_journal::{Journal, JournalName, Seat, Status, Tally, Ticket, Turn, UnnamedJournal};
 use std::marker::Brand;
 use std::process::Abort;
 use std::sync::Wait;

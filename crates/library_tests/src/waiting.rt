@@ -5,7 +5,7 @@ use crate::bytes::expect;
 use crate::logs::{formatted, unnamed_on};
 use block_device::{Device, StopAt};
 use journal_model::{BlockNo, JournalError, Tid};
-use shared_journal::{Handle, Journal, JournalName, UnnamedJournal, Seat, Turn};
+use shared_journal::{Handle, Journal, JournalName, Seat, Turn, UnnamedJournal};
 use std::alloc::Global;
 use std::marker::Brand;
 use std::process::Abort;

@@ -63,7 +63,7 @@ impl<O: Write + Drop> Flusher<'_, O> {
     }
 }
 
-/// Records an answer.
+/// Registers an answer.
 fn register(committed: &mut Vec<Committed>, due: &Due) -> io::Result<()>
     ensures { OnOk result (committed.new.items ≡ committed.old.items ++ record { cookie = due.now.cookie; upto = due.now.upto } ∷ []) }
 {

@@ -77,7 +77,10 @@ impl<E, P: Since<E>> UnnamedReconciler<E, P> {
 
     /// The reconciler named J with its first value, which the follower has seen, and its owner. The caller shows that J is its name (the call
     /// that brings in J picks it so), and that `since` holds of an unchanged value.
-    pub fn named<J: PartsName>(self, value: &E) -> (Reconciler<J, E, P>, Follower<J, E>, Owner<J, E>)
+    pub fn named<J: PartsName>(
+        self,
+        value: &E,
+    ) -> (Reconciler<J, E, P>, Follower<J, E>, Owner<J, E>)
         requires name { self ≡ J.parts }
         requires holds { P.since value.now value.now }
         ensures follower { result.1 ≡ value.now }

@@ -9,7 +9,7 @@ use crate::counts::{FailureCounts, NotRight};
 use crate::judging::{Ran, left_by, named_blocks};
 use crate::place::{Event, Place, choices};
 use crate::swept::Swept;
-use jbench_words::watch::{WatchStep, Watch};
+use jbench_words::watch::{Watch, WatchStep};
 use journal_script::{NamedBlocks, Script};
 use script_run::Fault;
 use std::alloc::Global;

@@ -9,7 +9,7 @@ use crate::judging::{Found, Ran, copy_of, left_by, named_blocks};
 use crate::place::{Event, Place, choices};
 use crate::swept::Swept;
 use block_device::MemDevice;
-use jbench_words::watch::{WatchStep, Watch};
+use jbench_words::watch::{Watch, WatchStep};
 use journal_script::{NamedBlocks, Script};
 use recovery::Report;
 use script_run::{Attempt, Fault, OpenedImage, judge_reopened};

@@ -17,7 +17,7 @@ use block_device::MemDevice;
 use journal_model::{JournalError, Sealed};
 use journal_script::{ClientScript, NamedBlocks};
 use script_run::{Record, empty_disk};
-use shared_journal::{JournalName, UnnamedJournal, Parts, Tally, create};
+use shared_journal::{JournalName, Parts, Tally, UnnamedJournal, create};
 use std::alloc::{AllocError, Global};
 use std::collections::BTreeSet;
 use std::marker::Brand;

@@ -14,7 +14,7 @@ ghost use Rattle.handle.specs.Values.{fresh_seat};
 use crate::journal::Journal;
 use block_device::Device;
 use group_commit::{Record, Unrecorded};
-use handle::{JournalName, UnnamedBoard, Seat, board};
+use handle::{JournalName, Seat, UnnamedBoard, board};
 use journal_model::{JournalError, Tid};
 use journal_sides::UnnamedSides;
 use locked_journal::{Counters, Locked, SidesOf, UnnamedKnowing};

@@ -10,7 +10,7 @@ use recovery::Opened;
 use script_run::{
     AfterFailure, Fault, Record, RunDevice, Stopped, Stops, empty_log, judge_copied, judge_left,
 };
-use shared_journal::{Journal, JournalName, UnnamedJournal, Seat, create};
+use shared_journal::{Journal, JournalName, Seat, UnnamedJournal, create};
 use std::alloc::Global;
 use std::marker::Brand;
 use std::sync::Wait;

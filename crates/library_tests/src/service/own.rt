@@ -6,7 +6,7 @@ use crate::bytes::expect;
 use crate::logs::{formatted, unnamed_on};
 use block_device::{Device, MemDevice};
 use journal_model::{BlockNo, JournalError};
-use shared_journal::{JournalName, UnnamedJournal, Record};
+use shared_journal::{JournalName, Record, UnnamedJournal};
 use std::alloc::Global;
 use std::marker::Brand;
 use std::sync::Wait;

@@ -2,7 +2,7 @@ use Rattle.std.proofs.Common.{sym, ap, ◌∙◌, arith}
 use Rattle.handle.proofs.Stepping.{learns_share}
 use Rattle.handle.proofs.words.Words.learn_seen.Goals as goal
 
--- It takes in a note.
+-- It learns a share.
 pub join_seat-requires : goal.join_seat-requires
 join_seat-requires g c =
     let is = c.deref.ensures in

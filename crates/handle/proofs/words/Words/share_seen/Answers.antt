@@ -2,7 +2,7 @@ use Rattle.std.proofs.Common.{sym, ap, ◌∙◌, arith}
 use Rattle.handle.proofs.Stepping.{shares}
 use Rattle.handle.proofs.words.Words.share_seen.Goals as goal
 
--- A note changes no sum.
+-- A share changes no sum.
 pub split_seat-requires : goal.split_seat-requires
 split_seat-requires g c =
     let is = c.deref.ensures in
