@@ -16,9 +16,11 @@ mod laws;
 mod locks;
 mod unmeasured;
 
+pub use block_device::{Device, DeviceFault};
 pub use device::{Contents, FileDevice, UnknownContents};
 pub use durability::make_durable;
 pub use failure::{FailedCall, Failure};
+pub use journal_model::Area;
 pub use laws::{answers_that_agree_keep_the_premise, what_is_gathered_may_be_lost};
 pub use locks::{ReadLock, Unlocked, WriteLock, lock, lock_shared};
 pub use unmeasured::Unmeasured;

@@ -15,8 +15,11 @@ mod extension;
 mod journal;
 mod ticket;
 
+pub use block_device::{Device, DeviceFault, MemDevice};
 pub use journal::{Journal, Parts};
 pub use journal_front::{Credits, Front, Handle, Record, Unrecorded};
-pub use journal_model::Status;
+pub use journal_model::{
+    Area, Block, BlockNo, HandleNo, JournalError, Op, Sealed, Status, Step, Tid,
+};
 pub use journal_steps::{CheckTurn, Turn};
 pub use ticket::{Receipt, Ticket};

@@ -6,10 +6,8 @@
 #![tactic(auto)]
 
 use anyhow::{Result, bail};
-use block_device::Device;
 use file_device::{FileDevice, UnknownContents, lock};
-use group_commit::{Handle, Journal, Receipt, Ticket};
-use journal_model::{BlockNo, JournalError, Tid};
+use group_commit::{BlockNo, Device, Handle, Journal, JournalError, Receipt, Ticket, Tid};
 use recovery::Opened;
 use std::alloc::Global;
 use std::fs::{File, OpenOptions};

@@ -15,9 +15,11 @@ mod planning;
 mod replaying;
 mod upgrading;
 
+pub use block_device::{Device, MemDevice};
 pub use empty_log::format;
 pub use examine::{lowest_ahead, read_super};
 pub use gathering::{Tables, gather};
+pub use journal_model::{JournalError, Tid};
 pub use opening::{Opened, Report, number_from, open};
 pub use planning::{Plan, count_copies, plan_opening};
 pub use replaying::{clean_log, replay};
