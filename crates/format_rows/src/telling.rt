@@ -137,5 +137,5 @@ pub fn malformed_text(alloc: Global, malformed: Malformed) -> Result<String, Row
 
 /// The text for a refusal.
 pub fn refusal_text(alloc: Global, refusal: JournalError) -> Result<String, RowError> {
-    Ok(format!(in alloc; "refusal {} {refusal}", refusal.number())?)
+    Ok(format!(in alloc; "refusal {} {}", refusal.number(), refusal.name())?)
 }

@@ -163,5 +163,5 @@ pub(crate) fn say_stopped<W: Write>(
         let (first, last) = numbers_of(report);
         write!(out, "  transactions {first} to {last}")?;
     }
-    writeln!(out, ", stopped by refusal {} {e}", e.number())
+    writeln!(out, ", stopped by refusal {} {}", e.number(), e.name())
 }

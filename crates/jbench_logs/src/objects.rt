@@ -60,7 +60,10 @@ pub(crate) fn write_refusal<W: Write>(out: &mut W, e: JournalError) -> io::Resul
             out,
             "{{\"number\":{number},\"name\":\"Damage\",\"place\":{place}}}"
         ),
-        _ => write!(out, "{{\"number\":{number},\"name\":\"{e}\"}}"),
+        _ => {
+            let name = e.name();
+            write!(out, "{{\"number\":{number},\"name\":\"{name}\"}}")
+        }
     }
 }
 

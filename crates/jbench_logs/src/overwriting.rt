@@ -40,8 +40,9 @@ pub fn say_overwritten<D: Device>(
         Err(JournalError::Memory) => Err(io::Error::from(ErrorKind::OutOfMemory)),
         Err(e) => writeln!(
             err,
-            "jbench: overwrites {path}: it held a log that is refused, {} {e}",
-            e.number()
+            "jbench: overwrites {path}: it held a log that is refused, {} {}",
+            e.number(),
+            e.name()
         ),
     }
 }

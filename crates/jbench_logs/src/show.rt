@@ -215,8 +215,9 @@ fn show_field(field: &Field<'_>, out: &mut impl Write) -> io::Result<()> {
         Some(Failed { refusal, wanted }) => {
             writeln!(
                 out,
-                "  refusal {} {refusal}: wanted is {wanted}",
-                refusal.number()
+                "  refusal {} {}: wanted is {wanted}",
+                refusal.number(),
+                refusal.name()
             )
         }
         None => Ok(()),

@@ -104,8 +104,9 @@ pub(crate) fn print(refusal: Option<JournalError>, out: &mut impl Write) -> io::
         ),
         Some(e) => writeln!(
             out,
-            "an opening refuses this superblock: {} {e}",
-            e.number()
+            "an opening refuses this superblock: {} {}",
+            e.number(),
+            e.name()
         ),
     }
 }

@@ -132,8 +132,9 @@ fn report(err: &mut impl Write, path: &str, fault: &Fault) -> io::Result<()> {
         Fault::Clock => writeln!(err, "jbench: clock"),
         Fault::Refused(e) => writeln!(
             err,
-            "jbench: refusal {} {e}\n  {}",
+            "jbench: refusal {} {}\n  {}",
             e.number(),
+            e.name(),
             advice_of(*e)
         ),
         Fault::Output(e) if e.kind() == ErrorKind::BrokenPipe => Ok(()),

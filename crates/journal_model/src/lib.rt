@@ -23,6 +23,6 @@ pub use history::History;
 pub use list::Items;
 pub use log_layout::LogLayout;
 pub use number::{Area, BlockNo, HandleNo, Tid};
-pub use refusal::JournalError;
+pub use refusal::{JournalError, RefusalName};
 pub use status::Status;
 pub use transaction::{Op, Sealed, Step};

@@ -3,24 +3,25 @@ use std::alloc::{AllocError, AllocFailed};
 use std::error::Error;
 use std::fmt;
 
-/// Why a call was refused. Programs print the refusal's number.
+/// Why a call was refused. Displayed it is a sentence with its number and its name: `refusal 5 Full: the credits held leave fewer than
+/// asked`. A sentence names each cause that the refusal may have.
 #[derive(Clone, Copy, Debug, PartialEq, Eq)]
 pub enum JournalError {
-    /// 1: memory ran out.
+    /// 1: memory ran out, or a thread could not be started.
     Memory,
     /// 2: the device failed during this call.
     Device,
     /// 3: the device failed earlier.
     Aborted,
-    /// 4: the first touch of a block by a handle with no credit left.
+    /// 4: the first touch of a block by a handle with no credit left; or a handle or credits of another journal.
     NoCredit,
     /// 5: the credits held, with those of refused reserves, leave fewer than asked.
     Full,
-    /// 6: more credits than one transaction can have.
+    /// 6: more credits than one transaction can have, or more tasks than a journal can serve.
     TooMany,
-    /// 7: the current transaction is locked.
+    /// 7: the current transaction is locked; where it has to be committed, other handles are open, or the ticket is another journal's.
     NotRunning,
-    /// 8: a block number that is not allowed.
+    /// 8: a block number that is not allowed, or bytes that are not one block.
     BadBlock,
     /// 9: a direct write to a block that is not free for it.
     NotDirect,
@@ -57,15 +58,36 @@ pub enum JournalError {
     NotEmpty,
 }
 
-/// The refusal's name, and the block's place if it has one.
+/// The sentence.
 impl fmt::Display for JournalError {
+    ghost use Rattle.std.specs.Prelude.{Some};
+    ghost use Rattle.journal_model.specs.Refusal.{sentence_of};
+
+    ghost output = { λ e. Some (sentence_of e) };
+
+    fn fmt<W: fmt::Write>(&self, f: &mut fmt::Formatter<W>) -> fmt::Result {
+        write!(
+            f,
+            "refusal {} {}: {}",
+            self.number(),
+            self.name(),
+            self.cause()
+        )
+    }
+}
+
+/// A refusal's name, and the block's place if it has one: `Full`, `Ahead 7`.
+#[derive(Clone, Copy, Debug)]
+pub struct RefusalName(pub JournalError);
+
+impl fmt::Display for RefusalName {
     ghost use Rattle.std.specs.Prelude.{Some};
     ghost use Rattle.journal_model.specs.Refusal.{refusal_text};
 
-    ghost output = { λ e. Some (refusal_text e) };
+    ghost output = { λ name. Some (refusal_text name.0) };
 
     fn fmt<W: fmt::Write>(&self, f: &mut fmt::Formatter<W>) -> fmt::Result {
-        match self {
+        match self.0 {
             JournalError::Memory => f.write_str("Memory"),
             JournalError::Device => f.write_str("Device"),
             JournalError::Aborted => f.write_str("Aborted"),
@@ -121,7 +143,7 @@ impl<T: Drop> From<AllocFailed<T>> for JournalError {
 
 impl JournalError {
     ghost use Rattle.std.specs.Prelude.{◌≡◌};
-    ghost use Rattle.journal_model.specs.Refusal.{number_of};
+    ghost use Rattle.journal_model.specs.Refusal.{cause_of, number_of};
 
     /// The refusal's number, from 1 to 24.
     pub fn number(&self) -> u8
@@ -152,6 +174,50 @@ impl JournalError {
             JournalError::Damage(_) => 22,
             JournalError::AlreadyWide => 23,
             JournalError::NotEmpty => 24,
+        }
+    }
+    /// Its name, to be displayed in place of the sentence.
+    pub fn name(&self) -> RefusalName
+        ensures { result.0 ≡ self.now }
+    {
+        RefusalName(*self)
+    }
+
+    /// What happened.
+    fn cause(&self) -> &'static str
+        ensures { result.now ≡ cause_of self.now }
+    {
+        match self {
+            JournalError::Memory => "memory ran out, or a thread could not be started",
+            JournalError::Device => "the device failed during this call",
+            JournalError::Aborted => "the device failed in an earlier call",
+            JournalError::NoCredit =>
+                "no credit is left for a block that is new to the transaction, or the handle or the credits are of another journal",
+            JournalError::Full => "the credits held leave fewer than asked",
+            JournalError::TooMany =>
+                "more credits than one transaction can have, or more tasks than a journal can serve",
+            JournalError::NotRunning =>
+                "the transaction takes no more handles, other handles are open, or the ticket is of another journal",
+            JournalError::BadBlock =>
+                "home has no such block, the log can not spell its number, or the bytes are not one block",
+            JournalError::NotDirect => "the block is not left to home, so it takes no direct write",
+            JournalError::SequenceEnd => "no number is left for a transaction or a handle",
+            JournalError::NeedSpace => "the ring has fewer free blocks than the transaction needs",
+            JournalError::Revoked => "an uncommitted transaction revoked the block last",
+            JournalError::BadMagic => "the superblock does not begin with the magic",
+            JournalError::BadType => "the type of the superblock is not 4",
+            JournalError::BadBlockSize =>
+                "s_blocksize is not 1024, 2048 or 4096, or is not that of the device",
+            JournalError::BadLength =>
+                "the length of the log is outside its limits or above the blocks of the log area, or that has no block",
+            JournalError::BadFirst => "s_first is 0, or leaves a ring of fewer than 16 blocks",
+            JournalError::BadFeature => "a feature is not taken, or s_nr_users is not 1",
+            JournalError::BadStart => "s_start is not 0, and outside the ring",
+            JournalError::ErrnoSet => "s_errno is not 0",
+            JournalError::Ahead(_) => "that block has a number above what the log may hold",
+            JournalError::Damage(_) => "that block is malformed",
+            JournalError::AlreadyWide => "the log has 64-bit block numbers already",
+            JournalError::NotEmpty => "the log is not clean",
         }
     }
 }

@@ -15,7 +15,7 @@ use std::str::from_utf8;
 
 fn add_fault(told: &mut String, fault: &Fault) -> Result<(), RowError> {
     match fault {
-        Fault::Refused(e) => write!(told, "refusal {} {fault}\n", e.number())?,
+        Fault::Refused(e) => write!(told, "refusal {} {}\n", e.number(), e.name())?,
         Fault::Output(_) => write!(told, "output: {fault}\n")?,
     }
     Ok(())

@@ -32,7 +32,7 @@ type Answer = Result<bool, JournalError>;
 fn write_answer(found: &mut String, answer: Answer) -> Result<(), AllocError> {
     match answer {
         Ok(right) => write!(found, "right {right}"),
-        Err(e) => write!(found, "refusal {} {e}", e.number()),
+        Err(e) => write!(found, "refusal {} {}", e.number(), e.name()),
     }
 }
 

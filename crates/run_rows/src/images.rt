@@ -80,7 +80,7 @@ fn opening_of_run<J: Runner, D: Device>(
         Err(Fault::Refused(JournalError::Memory) | Fault::Output(_)) => Err(RowError::Memory),
         Err(Fault::Refused(e)) => {
             let count = lines.lines().count();
-            Ok(format!(in alloc; "refused {} {e} behind {count} lines", e.number())?)
+            Ok(format!(in alloc; "refused {} {} behind {count} lines", e.number(), e.name())?)
         }
     }
 }
@@ -95,7 +95,7 @@ fn opening_of_copy(alloc: Global, copy: MemDevice) -> Result<String, RowError> {
                 Ok(format!(in alloc; "end={} next={next}", report.ends_at)?)
             }
         }
-        Err((_, e)) => Ok(format!(in alloc; "refused {} {e}", e.number())?),
+        Err((_, e)) => Ok(format!(in alloc; "refused {} {}", e.number(), e.name())?),
     }
 }
 

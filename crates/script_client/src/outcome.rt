@@ -80,7 +80,7 @@ fn write_byte<W: fmt::Write>(f: &mut fmt::Formatter<W>, byte: u8) -> fmt::Result
 fn write_refusal<W: fmt::Write>(f: &mut fmt::Formatter<W>, e: JournalError) -> fmt::Result
     ensures { WritesOnOk W.write_str_gives f.old result (refused_text e) f.new }
 {
-    write!(f, "refused {} {e}", e.number())
+    write!(f, "refused {} {}", e.number(), e.name())
 }
 
 fn write_turn<W: fmt::Write>(f: &mut fmt::Formatter<W>, turn: Turn) -> fmt::Result

@@ -122,7 +122,7 @@ impl<J: Swept> Ran<'_, J> {
         }
         not_right.refused = not_right.refused.saturating_add(1);
         self.name(place, again, err)?;
-        writeln!(err, "refused {} {e}", e.number())?;
+        writeln!(err, "refused {} {}", e.number(), e.name())?;
         Ok(())
     }
 

@@ -104,9 +104,10 @@ fn print_refused<E: Write + Drop>(clients: &[RefusedClient], err: E) -> io::Resu
         let why = client.why;
         writeln!(
             err,
-            "jbench: client {} refused {} {why}",
+            "jbench: client {} refused {} {}",
             client.number,
-            why.number()
+            why.number(),
+            why.name()
         )?;
     }
     Ok(Status::Refused)

@@ -46,7 +46,7 @@ fn write_outcome(outcome: &Outcome, out: &mut Vec<u8>) -> io::Result<()> {
         Outcome::Committed => write!(out, "committed"),
         Outcome::Open => write!(out, "open"),
         Outcome::Skipped => write!(out, "skipped"),
-        Outcome::Refused(e) => write!(out, "refused {} {e}", e.number()),
+        Outcome::Refused(e) => write!(out, "refused {} {}", e.number(), e.name()),
     }
 }
 
