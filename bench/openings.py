@@ -276,7 +276,7 @@ def tell_changed_bytes(given):
     return tally.text()
 
 
-# ---- the spelling of logs (docs of format_rows::spelling and log_rows::logs)
+# ---- the spelling of logs (docs of log_rows::spelling and log_rows::logs)
 
 
 def number(text):
@@ -368,7 +368,7 @@ def log_of(text):
     return log, home_blocks
 
 
-# ---- random logs, drawn in the same order as by opening_rows::random_logs
+# ---- random logs, drawn in the same order as by log_rows::openings::random_logs
 
 
 class Draws:

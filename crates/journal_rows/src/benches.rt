@@ -2,11 +2,11 @@
 use crate::commands::{text_of, words_in};
 use block_device::MemDevice;
 use commit_times::bench;
-use format_rows::RowError;
-use format_rows::words::cut;
 use jbench_words::fault::Status;
 use jbench_words::watch::{Watch, WatchStep};
 use jbench_words::words::{BenchWords, Words, parse};
+use log_rows::RowError;
+use log_rows::words::cut;
 use run_rows::texts::numbers_in;
 use std::alloc::Global;
 use std::cell::Cell;

@@ -1,8 +1,6 @@
 //! Rows of the commands of `jbench`, over readers, writers and devices in memory.
 use crate::kinds::both;
 use block_device::MemDevice;
-use format_rows::RowError;
-use format_rows::words::cut;
 use jbench_commands::{check, run, sweep};
 use jbench_help::{write_completions, write_manual};
 use jbench_logs::{logs, recovering, show};
@@ -13,6 +11,8 @@ use jbench_words::words::{
     ShowWords, StopWords, SweepWords, Words, answer, parse,
 };
 use journal_script::{Script, ScriptError, read};
+use log_rows::RowError;
+use log_rows::words::cut;
 use run_rows::journals::{Runner, Shared};
 use run_rows::scripts::measures_text;
 use run_rows::texts::{numbers_in, written};

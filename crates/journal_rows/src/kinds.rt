@@ -1,11 +1,11 @@
 //! Finds a row's function by the name of its kind.
 use crate::{benches, commands, views};
-use format_rows::RowError;
+use log_rows::RowError;
 use run_rows::journals::{Alone, Runner, Shared};
+use run_rows::shared::SharedJournal;
 use script_sweep::{Swept, ThisJournal};
 use std::alloc::Global;
 use std::sync::Wait;
-use sweep_rows::shared::SharedJournal;
 
 /// A row's result; or its text is malformed, or memory ran out.
 pub type Found = Result<String, RowError>;
@@ -63,7 +63,7 @@ fn found_over<J: Runner>(alloc: Global, journal: &J, kind: &str, given: &str) ->
         "bytes" => Some(run_rows::changed::bytes(alloc, journal, given)),
         "changed" => Some(run_rows::changed::changed(alloc, journal, given)),
         "failed_copies" => Some(run_rows::images::failed_copies(alloc, journal, given)),
-        "failures" => Some(sweep_rows::failures::failures(alloc, journal, given)),
+        "failures" => Some(run_rows::failures::failures(alloc, journal, given)),
         "images" => Some(run_rows::images::images(alloc, journal, given)),
         "reopened_devices" => Some(run_rows::reopened::reopened_devices(alloc, journal, given)),
         "stops" => Some(run_rows::stops::stops(alloc, journal, given)),
@@ -75,8 +75,8 @@ fn found_over<J: Runner>(alloc: Global, journal: &J, kind: &str, given: &str) ->
 /// The result of a row on sweeps of this journal.
 fn swept<J: Swept>(alloc: Global, journal: &J, kind: &str, given: &str) -> Option<Found> {
     match kind {
-        "failure_sweeps" => Some(sweep_rows::sweeps::failure_sweeps(alloc, journal, given)),
-        "sweeps" => Some(sweep_rows::sweeps::sweeps(alloc, journal, given)),
+        "failure_sweeps" => Some(run_rows::sweeps::failure_sweeps(alloc, journal, given)),
+        "sweeps" => Some(run_rows::sweeps::sweeps(alloc, journal, given)),
         _ => None,
     }
 }
@@ -85,12 +85,12 @@ fn swept<J: Swept>(alloc: Global, journal: &J, kind: &str, given: &str) -> Optio
 fn found_of_run(alloc: Global, kind: &str, given: &str) -> Option<Found> {
     match kind {
         "closes" => Some(run_rows::closes::closes(alloc, given)),
-        "ignored_failures" => Some(sweep_rows::sweeps::ignored_failures(alloc, given)),
+        "ignored_failures" => Some(run_rows::sweeps::ignored_failures(alloc, given)),
         "interrupted_closes" => Some(run_rows::closes::interrupted_closes(alloc, given)),
         "operations" => Some(run_rows::scripts::operations(alloc, given)),
         "script" => Some(run_rows::scripts::script(alloc, given)),
-        "verdict" => Some(sweep_rows::verdicts::verdict(alloc, given)),
-        "wrong_journals" => Some(sweep_rows::sweeps::wrong_journals(alloc, given)),
+        "verdict" => Some(run_rows::verdicts::verdict(alloc, given)),
+        "wrong_journals" => Some(run_rows::sweeps::wrong_journals(alloc, given)),
         _ => None,
     }
 }
@@ -119,16 +119,16 @@ fn found_of_command<R: Wait>(rt: &R, alloc: Global, kind: &str, given: &str) -> 
 /// The result of a row on logs and devices.
 fn found_of_log(alloc: Global, kind: &str, given: &str) -> Option<Found> {
     match kind {
-        "chains" => Some(log_rows::chains(alloc, given)),
-        "contents_after" => Some(log_rows::contents_after(alloc, given)),
-        "counted_dumps" => Some(log_rows::counted_dumps(alloc, given)),
-        "covered_copies" => Some(log_rows::covered_copies(alloc, given)),
-        "crashed_images" => Some(log_rows::crashed_images(alloc, given)),
-        "dumps" => Some(log_rows::dumps(alloc, given)),
-        "memory_calls" => Some(log_rows::memory_calls(alloc, given)),
-        "newest_copies" => Some(log_rows::newest_copies(alloc, given)),
-        "short_dumps" => Some(log_rows::short_dumps(alloc, given)),
-        "transaction_entries" => Some(log_rows::transaction_entries(alloc, given)),
+        "chains" => Some(log_rows::contents::chains(alloc, given)),
+        "contents_after" => Some(log_rows::contents::contents_after(alloc, given)),
+        "counted_dumps" => Some(log_rows::contents::counted_dumps(alloc, given)),
+        "covered_copies" => Some(log_rows::contents::covered_copies(alloc, given)),
+        "crashed_images" => Some(log_rows::devices::crashed_images(alloc, given)),
+        "dumps" => Some(log_rows::contents::dumps(alloc, given)),
+        "memory_calls" => Some(log_rows::devices::memory_calls(alloc, given)),
+        "newest_copies" => Some(log_rows::contents::newest_copies(alloc, given)),
+        "short_dumps" => Some(log_rows::contents::short_dumps(alloc, given)),
+        "transaction_entries" => Some(log_rows::contents::transaction_entries(alloc, given)),
         _ => None,
     }
 }
@@ -136,18 +136,18 @@ fn found_of_log(alloc: Global, kind: &str, given: &str) -> Option<Found> {
 /// The result of a row on openings.
 fn found_of_opening(alloc: Global, kind: &str, given: &str) -> Option<Found> {
     match kind {
-        "changed_bytes" => Some(opening_rows::changed_bytes(alloc, given)),
-        "failed_openings" => Some(opening_rows::failed_openings(alloc, given)),
-        "failed_upgrades" => Some(opening_rows::failed_upgrades(alloc, given)),
-        "forgetful_openings" => Some(opening_rows::forgetful_openings(alloc, given)),
-        "opening_calls" => Some(opening_rows::opening_calls(alloc, given)),
-        "openings" => Some(opening_rows::openings(alloc, given)),
-        "openings_before_damage" => Some(opening_rows::openings_before_damage(alloc, given)),
-        "plans" => Some(opening_rows::plans(alloc, given)),
-        "random_logs" => Some(opening_rows::random_logs(alloc, given)),
-        "second_openings" => Some(opening_rows::second_openings(alloc, given)),
-        "stopped_upgrades" => Some(opening_rows::stopped_upgrades(alloc, given)),
-        "upgrades" => Some(opening_rows::upgrades(alloc, given)),
+        "changed_bytes" => Some(log_rows::openings::changed_bytes(alloc, given)),
+        "failed_openings" => Some(log_rows::openings::failed_openings(alloc, given)),
+        "failed_upgrades" => Some(log_rows::openings::failed_upgrades(alloc, given)),
+        "forgetful_openings" => Some(log_rows::openings::forgetful_openings(alloc, given)),
+        "opening_calls" => Some(log_rows::openings::opening_calls(alloc, given)),
+        "openings" => Some(log_rows::openings::openings(alloc, given)),
+        "openings_before_damage" => Some(log_rows::openings::openings_before_damage(alloc, given)),
+        "plans" => Some(log_rows::openings::plans(alloc, given)),
+        "random_logs" => Some(log_rows::openings::random_logs(alloc, given)),
+        "second_openings" => Some(log_rows::openings::second_openings(alloc, given)),
+        "stopped_upgrades" => Some(log_rows::openings::stopped_upgrades(alloc, given)),
+        "upgrades" => Some(log_rows::openings::upgrades(alloc, given)),
         _ => None,
     }
 }
@@ -155,21 +155,21 @@ fn found_of_opening(alloc: Global, kind: &str, given: &str) -> Option<Found> {
 /// The result of a row on blocks, the ring and layouts.
 fn found_of_format(alloc: Global, kind: &str, given: &str) -> Option<Found> {
     match kind {
-        "allowed_blocks" => Some(format_rows::allowed_blocks(alloc, given)),
-        "capacities" => Some(format_rows::capacities(alloc, given)),
-        "escapes" => Some(format_rows::escapes(alloc, given)),
-        "formatted_superblocks" => Some(format_rows::formatted_superblocks(alloc, given)),
-        "full_blocks" => Some(format_rows::full_blocks(alloc, given)),
-        "headers" => Some(format_rows::headers(alloc, given)),
-        "needs" => Some(format_rows::needs(alloc, given)),
-        "parts" => Some(format_rows::parts(alloc, given)),
-        "places" => Some(format_rows::places(alloc, given)),
-        "read_blocks" => Some(format_rows::read_blocks(alloc, given)),
-        "ring_calls" => Some(format_rows::ring_calls(alloc, given)),
-        "started_superblocks" => Some(format_rows::started_superblocks(alloc, given)),
-        "superblock_fields" => Some(format_rows::superblock_fields(alloc, given)),
-        "tested_superblocks" => Some(format_rows::tested_superblocks(alloc, given)),
-        "written_blocks" => Some(format_rows::written_blocks(alloc, given)),
+        "allowed_blocks" => Some(log_rows::formats::allowed_blocks(alloc, given)),
+        "capacities" => Some(log_rows::formats::capacities(alloc, given)),
+        "escapes" => Some(log_rows::formats::escapes(alloc, given)),
+        "formatted_superblocks" => Some(log_rows::formats::formatted_superblocks(alloc, given)),
+        "full_blocks" => Some(log_rows::formats::full_blocks(alloc, given)),
+        "headers" => Some(log_rows::formats::headers(alloc, given)),
+        "needs" => Some(log_rows::formats::needs(alloc, given)),
+        "parts" => Some(log_rows::formats::parts(alloc, given)),
+        "places" => Some(log_rows::formats::places(alloc, given)),
+        "read_blocks" => Some(log_rows::formats::read_blocks(alloc, given)),
+        "ring_calls" => Some(log_rows::formats::ring_calls(alloc, given)),
+        "started_superblocks" => Some(log_rows::formats::started_superblocks(alloc, given)),
+        "superblock_fields" => Some(log_rows::formats::superblock_fields(alloc, given)),
+        "tested_superblocks" => Some(log_rows::formats::tested_superblocks(alloc, given)),
+        "written_blocks" => Some(log_rows::formats::written_blocks(alloc, given)),
         _ => None,
     }
 }

@@ -2,8 +2,8 @@
 //! held, and each row that did not.
 //!
 //! `row_file` reads a file of rows, `repetition` expands a row's repetitions, `kinds` finds a row's function, and `report` compares the
-//! result with the wanted one. `format_rows`, `log_rows`, `opening_rows`, `run_rows` and `sweep_rows` have the functions for blocks, logs,
-//! openings and runs; `commands` those for commands of `jbench`, and `views` those for its look-ups.
+//! result with the wanted one. `log_rows` and `run_rows` have the functions for blocks, logs, openings and runs; `commands` those for
+//! commands of `jbench`, and `views` those for its look-ups.
 #![tactic(auto)]
 
 mod benches;
@@ -14,7 +14,7 @@ mod report;
 mod row_file;
 mod views;
 
-use format_rows::RowError;
+use log_rows::RowError;
 use report::report_of;
 use std::process::ExitCode;
 use std::sync::Wait;

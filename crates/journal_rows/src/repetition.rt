@@ -1,6 +1,6 @@
 //! Expands repetitions in a row.
-use format_rows::RowError;
-use format_rows::words::cut;
+use log_rows::RowError;
+use log_rows::words::cut;
 use run_rows::texts::numbers_in;
 use std::alloc::Global;
 use std::fmt::Write;

@@ -2,7 +2,7 @@
 use crate::kinds::{Found, found};
 use crate::repetition::written_out;
 use crate::row_file::{Row, RowFile, read};
-use format_rows::RowError;
+use log_rows::RowError;
 use std::alloc::{AllocError, Global};
 use std::fmt::Write;
 use std::sync::Wait;

@@ -1,7 +1,7 @@
 //! Reads a file of rows: lines that begin with `#`, a line `rows KIND`, then the rows. A long row is a line `== NAME`, what is given, a
 //! line `-->`, and what is wanted. A short row is a line `NAME: GIVEN --> WANTED`.
-use format_rows::RowError;
-use format_rows::words::cut;
+use log_rows::RowError;
+use log_rows::words::cut;
 use std::alloc::{AllocError, Global};
 
 /// A row: the function of its kind must turn the given text into the wanted one.

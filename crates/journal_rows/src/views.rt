@@ -1,11 +1,11 @@
 //! Rows of the commands that look something up in a log, over devices in memory.
 use crate::commands::{log_on_device, text_of, words_in};
 use block_device::MemDevice;
-use format_rows::RowError;
-use format_rows::words::cut;
 use jbench_views::{cat, dump};
 use jbench_words::fault::Status;
 use jbench_words::words::{CatWords, DumpWords, Words, parse};
+use log_rows::RowError;
+use log_rows::words::cut;
 use std::alloc::Global;
 use std::fmt::Write;
 

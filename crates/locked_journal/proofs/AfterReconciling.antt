@@ -19,12 +19,12 @@ use Rattle.journal_steps.specs.Values.{JournalValue}
 use Rattle.journal_sides.specs.Sides.{Finishes, HeldReadDid, Reconciles, ReconcilesAnd, SealDid, Notifies, engine_of}
 use Rattle.journal_sides.specs.Sides.Finishes.{NoneFinished, OneFinished}
 use Rattle.journal_sides.specs.Sides.Notifies.{NotNotified, Notified}
-use Rattle.own_steps.specs.declared.own.HandleStage.{HandleStage}
-use Rattle.own_steps.specs.declared.own.HandleStage.TheVariants.{Open, Stopped, Asked}
-use Rattle.own_steps.specs.declared.own.OwnSteps.{OwnSteps}
-use Rattle.own_steps.specs.Knowing.{AllStillKnow, MayGo}
-use Rattle.own_steps.specs.Own.{IsOwn, StageHolds}
-use Rattle.own_steps.proofs.Calls as calls
+use Rattle.locked_journal.specs.declared.own.HandleStage.{HandleStage}
+use Rattle.locked_journal.specs.declared.own.HandleStage.TheVariants.{Open, Stopped, Asked}
+use Rattle.locked_journal.specs.declared.own.OwnSteps.{OwnSteps}
+use Rattle.locked_journal.specs.Knowing.{AllStillKnow, MayGo}
+use Rattle.locked_journal.specs.Own.{IsOwn, StageHolds}
+use Rattle.locked_journal.proofs.Calls as calls
 use Rattle.locked_journal.specs.Locked.{IsHeld}
 use Rattle.locked_journal.proofs.Counting as counting
 

@@ -4,7 +4,7 @@ ghost use Rattle.journal_model.specs.Transaction.{entries};
 ghost use Rattle.journal_world.specs.Front.{held, transactions};
 ghost use Rattle.journal_steps.specs.Legal.{KeepsLegal};
 ghost use Rattle.journal_sides.specs.Sides.{Reconciles};
-ghost use Rattle.own_steps.specs.Own.{Confirms};
+ghost use Rattle.locked_journal.specs.Own.{Confirms};
 ghost use Rattle.locked_journal.specs.Known.{own_of_ticket};
 
 use crate::known::{Knowing, Recorded, look};

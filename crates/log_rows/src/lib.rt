@@ -1,17 +1,17 @@
-//! Rows of logs: texts and transactions of the plain program, dumps, and devices in memory. A row gives a text, and the text that is
-//! wanted; each kind of rows is a function. `logs` says how rows spell logs.
+//! Rows of the log: its blocks byte for byte, what logs hold, devices in memory, and openings. A row gives a text, and the text that is
+//! wanted. Each kind of rows is a function: it does what the row gives by public functions of the crates below, and returns the text that
+//! it found. The program `journal_rows` reads the files of rows and compares. `spelling` says how rows spell blocks, `logs` how they spell
+//! logs.
 #![tactic(auto)]
 
-mod dumping;
-mod images;
+pub mod contents;
+pub mod devices;
+mod error;
+pub mod formats;
 pub mod logs;
-mod memory;
-mod texts;
-mod transactions;
+pub mod openings;
+pub mod spelling;
+pub mod telling;
+pub mod words;
 
-pub use dumping::{counted_dumps, dumps, short_dumps};
-pub use format_rows::RowError;
-pub use images::known_images;
-pub use memory::{crashed_images, memory_calls};
-pub use texts::{chains, covered_copies, newest_copies};
-pub use transactions::{contents_after, transaction_entries};
+pub use error::RowError;

@@ -8,11 +8,11 @@
 //! BLOCKS = P ":" BLOCK { "|" BLOCK }                        blocks of the log's area, from block P on
 //! ```
 //!
-//! Each part is a line. Other blocks are zeros. The module `spelling` of the crate `format_rows` has the spelling of a block.
+//! Each part is a line. Other blocks are zeros. `spelling` has the spelling of a block.
+use crate::RowError;
+use crate::spelling::{Measures, block_of};
+use crate::words::{count, cut, number};
 use block_device::{Device, MemDevice};
-use format_rows::RowError;
-use format_rows::spelling::{Measures, block_of};
-use format_rows::words::{count, cut, number};
 use journal_model::{Area, Block, Items};
 use std::alloc::{AllocError, Global};
 

@@ -2,9 +2,9 @@
 use crate::closing::{Closed, Fault, close_after};
 use crate::endings::{Ending, endings_text, in_one_line, kept, note};
 use crate::texts::{numbers_in, written};
-use format_rows::RowError;
-use format_rows::words::{cut, number};
 use journal_model::{Sealed, Tid};
+use log_rows::RowError;
+use log_rows::words::{cut, number};
 use recovery::open;
 use script_run::{Record, Stopped, judge};
 use std::alloc::Global;

@@ -2,12 +2,12 @@
 ghost use Rattle.std.specs.Prelude.{◌≡◌, length, IfOk};
 
 use block_device::{FailOnce, MemDevice, StopAt};
-use format_rows::RowError;
-use format_rows::telling::refusal_text;
-use format_rows::words::{cut, hex_byte, number};
 use group_commit::{Handle, Journal, Parts};
 use journal_model::{BlockNo, JournalError, Sealed};
 use journal_script::NamedBlocks;
+use log_rows::RowError;
+use log_rows::telling::refusal_text;
+use log_rows::words::{cut, hex_byte, number};
 use recovery::{Opened, format, open};
 use std::alloc::{AllocError, Global};
 

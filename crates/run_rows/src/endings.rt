@@ -1,9 +1,9 @@
 //! Groups interrupted runs by how they end.
 use crate::scripts::given_script;
 use crate::texts::numbers_in;
-use format_rows::RowError;
-use format_rows::words::cut;
 use journal_script::Script;
+use log_rows::RowError;
+use log_rows::words::cut;
 use std::alloc::{AllocError, Global};
 use std::fmt::Write;
 

@@ -3,10 +3,10 @@ use crate::endings::{Ending, Given, endings_text, given_of, in_one_line, kept, n
 use crate::journals::Runner;
 use crate::texts::{numbers_in, written};
 use block_device::{MemDevice, StopAt};
-use format_rows::RowError;
-use format_rows::words::cut;
 use journal_model::JournalError;
 use journal_script::NamedBlocks;
+use log_rows::RowError;
+use log_rows::words::cut;
 use recovery::{Opened, Report, open};
 use script_run::{Fault, OpenedImage, Stopped, judge_opened, judge_reopened, open_image};
 use std::alloc::Global;

@@ -1,7 +1,7 @@
 //! Rows of texts that are scripts, or are not.
 use crate::texts::write_hex;
-use format_rows::RowError;
 use journal_script::{Measures, Operation, Script, ScriptError, read};
+use log_rows::RowError;
 use std::alloc::{AllocError, Global};
 use std::fmt::Write;
 

@@ -2,9 +2,9 @@
 use crate::endings::{Ending, Given, endings_text, given_of, in_one_line, kept, note};
 use crate::journals::Runner;
 use crate::texts::written;
-use format_rows::RowError;
-use format_rows::words::cut;
 use journal_script::Script;
+use log_rows::RowError;
+use log_rows::words::cut;
 use script_run::{Stop, Stops};
 use std::alloc::Global;
 

@@ -1,5 +1,5 @@
 //! Numbers and bytes in the texts of rows.
-use format_rows::RowError;
+use log_rows::RowError;
 use std::alloc::AllocError;
 use std::fmt::Write;
 use std::str::from_utf8;

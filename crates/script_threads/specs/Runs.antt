@@ -6,7 +6,7 @@ use Rattle.std.specs.List.{AllZip}
 use Rattle.journal_model.specs.declared.transaction.Step.{Step}
 use Rattle.journal_model.specs.Transaction.{History}
 use Rattle.block_device.specs.Memory.{state_of}
-use Rattle.own_steps.specs.Own.{Confirms, stopped_own}
+use Rattle.locked_journal.specs.Own.{Confirms, stopped_own}
 use Rattle.journal_script.specs.Clients.{HasTouchedAll, IsClientScriptOf, handles_of}
 use Rattle.journal_script.specs.declared.clients.ClientHandle.{ClientHandle}
 use Rattle.journal_script.specs.declared.clients.ClientScript.{ClientScript}

@@ -3,8 +3,8 @@
 use crate::given::Given;
 use crate::spelling::spell;
 use block_device::{Device, MemDevice};
-use format_rows::RowError;
 use journal_model::{Area, JournalError};
+use log_rows::RowError;
 use nbd_server::{Done, Export, Output, serve};
 use shared_journal::{UnnamedJournal, create};
 use std::alloc::Global;

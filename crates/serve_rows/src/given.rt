@@ -1,8 +1,8 @@
 //! Reads a row: a line `serves` with `readonly` or `writable` and a name, a line `hello` with the client's bytes before its first request,
 //! and a line `requests` with the rest.
 use crate::spelling::bytes_of;
-use format_rows::RowError;
-use format_rows::words::cut;
+use log_rows::RowError;
+use log_rows::words::cut;
 use std::alloc::Global;
 
 #[derive(Drop)]

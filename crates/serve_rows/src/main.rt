@@ -9,8 +9,8 @@ mod given;
 mod spelling;
 mod stops;
 
-use format_rows::RowError;
-use format_rows::words::cut;
+use log_rows::RowError;
+use log_rows::words::cut;
 use std::alloc::Global;
 use std::fmt::Write;
 use std::process::ExitCode;

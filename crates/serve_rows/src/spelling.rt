@@ -1,6 +1,6 @@
 //! Spells bytes as words: hex digits, or `N*HH` for one byte N times. Eight equal bytes or more are counted.
-use format_rows::RowError;
-use format_rows::words::{count, hex_byte, hex_bytes};
+use log_rows::RowError;
+use log_rows::words::{count, hex_byte, hex_bytes};
 use std::alloc::{AllocError, Global};
 use std::fmt::Write;
 

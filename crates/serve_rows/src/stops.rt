@@ -4,7 +4,7 @@
 use crate::connection::{home_of, new_log, serve_on};
 use crate::given::Given;
 use block_device::{MemDevice, StopAt};
-use format_rows::RowError;
+use log_rows::RowError;
 use nbd_protocol::numbers::{WRITE, WRITE_ZEROES};
 use nbd_protocol::{REPLY_BYTES, REQUEST_BYTES, Request, write_reply};
 use nbd_server::Committed;

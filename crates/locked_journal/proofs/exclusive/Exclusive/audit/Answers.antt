@@ -1,7 +1,7 @@
 use Rattle.std.proofs.Common.{◌≤◌, ℕ, subst}
 use Rattle.journal_world.specs.Front.{Front}
-use Rattle.own_steps.specs.Own.{IsOwn}
-use Rattle.own_steps.proofs.Confirming.{confirms}
+use Rattle.locked_journal.specs.Own.{IsOwn}
+use Rattle.locked_journal.proofs.Confirming.{confirms}
 use Rattle.locked_journal.specs.Known.{own_of_ticket, ticket_known}
 use Rattle.locked_journal.proofs.exclusive.Exclusive.audit.Goals as goal
 

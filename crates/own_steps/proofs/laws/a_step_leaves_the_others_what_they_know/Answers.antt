@@ -1,5 +1,0 @@
-use Rattle.own_steps.proofs.Keeping.{others-know}
-use Rattle.own_steps.proofs.laws.a_step_leaves_the_others_what_they_know.Goals as goal
-
-pub returns : goal.returns
-returns c = others-know

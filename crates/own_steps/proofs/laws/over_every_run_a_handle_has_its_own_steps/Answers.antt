@@ -1,5 +1,0 @@
-use Rattle.own_steps.proofs.Running.{made-all}
-use Rattle.own_steps.proofs.laws.over_every_run_a_handle_has_its_own_steps.Goals as goal
-
-pub returns : goal.returns
-returns c = made-all

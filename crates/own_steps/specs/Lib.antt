@@ -1,3 +1,0 @@
-pub mod Knowing
-pub mod Own
-pub mod Run
