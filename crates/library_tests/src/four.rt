@@ -93,7 +93,7 @@ fn touch<J: JournalName, D: Device, K: Record, R: Wait>(
 }
 
 /// Takes turns until the ticket's transaction is committed, and audits the receipt.
-fn see_through<J: JournalName, D: Device, K: Record, R: Wait>(
+fn finish<J: JournalName, D: Device, K: Record, R: Wait>(
     rt: &R,
     journal: &Journal<J, D, K>,
     ticket: Ticket<J, K>,
@@ -132,7 +132,7 @@ fn work<J: JournalName, D: Device, K: Record, R: Wait>(
         };
         let touched = touch(rt, journal, &mut handle, thread, round);
         let ticket = journal.stop(rt, handle);
-        if !touched || round % 2 == 1 && !see_through(rt, journal, ticket) {
+        if !touched || round % 2 == 1 && !finish(rt, journal, ticket) {
             return false;
         }
     }
