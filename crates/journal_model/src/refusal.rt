@@ -176,6 +176,7 @@ impl JournalError {
             JournalError::NotEmpty => 24,
         }
     }
+
     /// Its name, to be displayed in place of the sentence.
     pub fn name(&self) -> RefusalName
         ensures { result.0 ≡ self.now }
