@@ -58,7 +58,7 @@ class Recorded(Device):
 class Apply(Run):
     """An apply of a script to a log that was just formatted, with all its lines, and how much was shown committed behind each."""
 
-    def __init__(self, text, stay, make_room):
+    def __init__(self, text, stay, make_room=False):
         super().__init__(text)  # reads the script, and does it once on a device that is thrown away
         counts = {"log": self.script["length"], "home": self.script["home"]}
         self.first = {"log": {0: formatted(self.script)}, "home": {}}

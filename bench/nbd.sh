@@ -1,7 +1,7 @@
 #!/usr/bin/env bash
 # Requests a second of `jbench serve` beside `nbdkit file` and `qemu-nbd`, whichever of these two are there: fio with its engine nbd over a
 # socket of the file system. The server of `jbench` has the socket itself as its standard input and output. The two others serve a plain file of
-# the same size. Each server is measured in turn, so many times, and the median of each is told, behind the machine, the file system, the
+# the same size. Each server is measured in turn, so many times, and the median of each is told, after the machine, the file system, the
 # versions and what the load was.
 #
 # usage: bench/nbd.sh [--program PATH] [--runs R] [--seconds S] [--length M] [--home H] [FOLDER]

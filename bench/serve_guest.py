@@ -43,7 +43,7 @@ BLOCK, LENGTH, HOME = 4096, 2048, 16384
 KEPT, PAGES, PAGE = 100, 64, 16384  # files that are kept, pages, bytes of a page
 INIT = """#!/bin/busybox sh
 export PATH=/bin
-/bin/busybox mkdir -p /proc /dev /mnt /tmp
+/bin/busybox mkdir -p /proc /dev /mnt
 /bin/busybox --install -s /bin
 stop() { while true; do sleep 1; done; } # the device failed, since its server is gone
 mount -t proc proc /proc
@@ -57,13 +57,13 @@ if [ ! -e /mnt/laid ]; then
 fi
 echo guest: mounted
 while true; do
-    yes "line of file $n" | head -c $((n * 7919 %% 60000 + 1)) >/tmp/file
-    dd if=/tmp/file of=/mnt/file$n bs=65536 conv=fsync 2>/dev/null || stop
+    yes "line of file $n" | head -c $((n * 7919 %% 60000 + 1)) >/file
+    dd if=/file of=/mnt/file$n bs=65536 conv=fsync 2>/dev/null || stop
     echo "guest: synced $n"
     rm -f /mnt/file$((n - %(kept)d))
     for k in 1 2 3; do
-        yes "page of $((3 * n + k))" | head -c %(page)d >/tmp/page
-        dd if=/tmp/page of=/mnt/pages bs=%(page)d seek=$(((3 * n + k) %% %(pages)d)) oflag=direct conv=notrunc 2>/dev/null || stop
+        yes "page of $((3 * n + k))" | head -c %(page)d >/page
+        dd if=/page of=/mnt/pages bs=%(page)d seek=$(((3 * n + k) %% %(pages)d)) oflag=direct conv=notrunc 2>/dev/null || stop
     done
     sync /mnt/pages || stop
     echo "guest: pages $((3 * n + 3))"
