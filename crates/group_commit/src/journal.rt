@@ -536,7 +536,7 @@ impl<D: Device, R: Record> Journal<D, R> {
     /// What is left of the journal comes back: what was sealed and committed by then stays so, and what a stop leaves of the
     /// device opens as it says. `Aborted` after a device failure: nothing was done. `Device` where the device failed. `Memory`
     /// where it ran out for the seal of the running transaction, which is then not sealed: all memory that the close takes it asks
-    /// for before its first call of the device, so that nothing was done. (The contract leaves room for a refusal behind the commit
+    /// for before its first call of the device, so that nothing was done. (The contract leaves room for a refusal after the commit
     /// that was under way, where all before it is committed. A whole ring has room for it, since it needs at most a quarter.) It makes
     /// the device calls of its turns, and a write and a flush where the log is not clean. At each moment of it a stop opens as between them.
     /// Source: fs/jbd2/journal.c by behaviour (`jbd2_journal_destroy`).

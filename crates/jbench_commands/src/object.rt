@@ -23,7 +23,7 @@ enum Key {
 
 impl Key {
     /// The key of a line after one of this key.
-    fn behind(self, line: &str) -> Key {
+    fn after(self, line: &str) -> Key {
         match self {
             Key::Operations if !line.starts_with("stopped ") => Key::Operations,
             Key::Operations => Key::Stopped,
@@ -80,7 +80,7 @@ fn stop_in(text: &str) -> &str {
 fn told_in(text: &str, wanted: Key) -> &str {
     let mut key = Key::Operations;
     for line in text.lines() {
-        key = key.behind(line);
+        key = key.after(line);
         if key == wanted {
             return sides_of(line, " ").1;
         }
@@ -94,7 +94,7 @@ fn write_list<W: Write>(text: &str, wanted: Key, out: &mut W) -> io::Result<()> 
     let mut first = true;
     write!(out, "[")?;
     for line in text.lines() {
-        key = key.behind(line);
+        key = key.after(line);
         if key == wanted {
             if !first {
                 write!(out, ",")?;

@@ -30,7 +30,7 @@ pub enum Part {
 }
 
 /// The log blocks of one transaction: revoke blocks, descriptors with their copies, the commit block.
-/// Source: journal.rst, "Layout"; which blocks come first is this project's own.
+/// Source: journal.rst, "Layout"; fs/jbd2/commit.c by behaviour: revoke blocks come first.
 #[derive(Drop)]
 pub struct Layout {
     layout: LogLayout,
@@ -86,8 +86,8 @@ impl Layout {
     }
 
     /// The most copies of one transaction: with its descriptors and commit block it takes at most a quarter of the ring.
-    /// Source: fs/jbd2 by behaviour (`j_max_transaction_buffers` is a quarter of the log); that descriptors and the commit
-    /// block count is this project's own.
+    /// Source: fs/jbd2 by behaviour (`j_max_transaction_buffers` is a quarter of the log; `j_transaction_overhead_buffers` of it are
+    /// for descriptors and the commit block).
     pub fn capacity(layout: LogLayout, ring_blocks: u64) -> u64
         requires taken { IsLayout layout }
         requires least { least_ring ≤ ring_blocks }

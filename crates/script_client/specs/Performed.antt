@@ -312,7 +312,7 @@ HasDone state honest SyncDirect outcome old new = IsSameButJournal old.client ne
 -- Checkpoint turns were taken for an operation, up to the first that had nothing to do, and it was performed; or the turns were refused, and
 -- it came to that.
 pub data HasDoneAfterRound {D : Type 0} (state : D → DeviceState) (honest : D → Type 0) (operation : Operation) (outcome : Outcome) (old new : Table D) : Type 0 where
-  DoneBehind : (roomy : Table D) → HasDone state honest Check (CameToCheckTurn IdleCheck) old roomy → HasDone state honest operation outcome roomy new →
+  DoneAfter : (roomy : Table D) → HasDone state honest Check (CameToCheckTurn IdleCheck) old roomy → HasDone state honest operation outcome roomy new →
       HasDoneAfterRound state honest operation outcome old new
   RoundRefused : HasDone state honest Check outcome old new → outcome ≢ CameToCheckTurn IdleCheck → HasDoneAfterRound state honest operation outcome old new
 

@@ -197,7 +197,7 @@ fn others(rt: &HostRuntime) -> Result<[Option<String>; 3], Fail> {
 }
 
 /// The output for these words while another thread has this file's lock for `milliseconds`, and whether it took that long.
-fn said_behind<T: Threads>(
+fn said_after<T: Threads>(
     rt: HostRuntime,
     threads: &T,
     path: &str,
@@ -292,7 +292,7 @@ fn files_that_are_waited_for(rt: HostRuntime) -> Result<(), Fail> {
     fs::write(&rt, "awaited/script", SCRIPT.as_bytes())?;
     said(&rt, "jbench format awaited/log awaited/home")?;
     for (path, (line, wanted)) in WAITING {
-        let (said, is_long) = said_behind(rt, &rt, path, 500, line)?;
+        let (said, is_long) = said_after(rt, &rt, path, 500, line)?;
         assert_eq!(rt; said.as_str(), wanted);
         assert!(rt; is_long, "it waited");
     }
