@@ -32,14 +32,9 @@ fn hold_streams(rt: &HostRuntime) -> io::Result<(File, File, File)> {
     ))
 }
 
-/// Runs the program's command, while the standard streams are held.
+/// Reads the program's words and runs their command, while the standard streams are held.
 fn jbench<T: Threads + Wait + Sync>(rt: &HostRuntime, threads: &T) -> io::Result<Status> {
     let _held = hold_streams(rt)?;
-    obey_words(rt, threads)
-}
-
-/// Reads the program's words and runs their command.
-fn obey_words<T: Threads + Wait + Sync>(rt: &HostRuntime, threads: &T) -> io::Result<Status> {
     let arguments = arguments::read(rt, rt.alloc())?;
     match words::parse(rt.alloc(), arguments.words()) {
         Ok(words) => match arguments.no_text() {

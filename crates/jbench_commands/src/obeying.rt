@@ -81,7 +81,7 @@ fn print_manual<W: Write + Drop>(out: W) -> io::Result<Status>
     Ok(Status::Fine)
 }
 
-/// Runs the script in a file.
+/// Runs the script in a file. The files of an image are opened before it is read.
 fn run_file<W: Write + Drop, E: Write + Drop>(
     rt: &HostRuntime,
     words: &RunWords<'_>,
@@ -92,24 +92,10 @@ fn run_file<W: Write + Drop, E: Write + Drop>(
     ensures other { IfOk result (λ status. status ≢ Fine → status ≡ Refused) }
 {
     let mut err = err;
-    match open_text(rt, words.script) {
-        Ok(script) => run_opened(rt, words, script, out, err),
-        Err(e) => refuse_file(&mut err, words.script, e),
-    }
-}
-
-/// Runs the script in this file. The files of an image are opened before it is read.
-fn run_opened<W: Write + Drop, E: Write + Drop>(
-    rt: &HostRuntime,
-    words: &RunWords<'_>,
-    script: RegularFile,
-    out: W,
-    err: E,
-) -> io::Result<Status>
-    ensures done { IfOk result (λ status. status ≡ Fine → IsOfText ⟦<Text as Read>⟧.remaining (λ text. HasRun (runs_told words.now.image) text words.now true)) }
-    ensures other { IfOk result (λ status. status ≢ Fine → status ≡ Refused) }
-{
-    let mut err = err;
+    let script = match open_text(rt, words.script) {
+        Ok(script) => script,
+        Err(e) => return refuse_file(&mut err, words.script, e),
+    };
     let Some(image) = words.image else {
         return run::run(rt.alloc(), words, script.into_text(), out, err);
     };

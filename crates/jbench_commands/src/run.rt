@@ -3,7 +3,7 @@ ghost use Rattle.std.specs.Prelude.{◌≡◌, ◌≢◌, ◌≤◌, ◌⊎◌, 
 ghost use Rattle.jbench_words.specs.Images.{IsUnmade};
 ghost use Rattle.jbench_words.specs.declared.fault.Status.TheVariants.{Fine, Refused};
 ghost use Rattle.script_run.specs.Left.{IsRunOf};
-ghost use Rattle.jbench_commands.specs.Runs.{AreStopsTold, HasRun, IsRunAsTold, IsRunWithImage, IsStopTold, IsTaken, IsWhole};
+ghost use Rattle.jbench_commands.specs.Runs.{AreStopsTold, HasRun, IsRunWithImage, IsStopTold, IsTaken, IsWhole};
 
 use crate::faults::of_run;
 use crate::object::write_object;
@@ -115,24 +115,6 @@ fn stops_of<'a>(words: &'a RunWords<'_>) -> Stops<'a>
     }
 }
 
-/// Runs a script that leaves an image, through a buffer, and returns the verdict.
-fn run_buffered<M: MakeImage + Drop, W: Write + Drop>(
-    alloc: Global,
-    words: &RunWords<'_>,
-    script: &Script,
-    image: M,
-    out: W,
-) -> Result<bool, Fault>
-    ensures run { IfOk result (IsRunAsTold IsRunWithImage words.now script.now) }
-    ensures right { IfOk result (λ right. right ≡ true) }
-{
-    let stops = stops_of(words);
-    let mut out = BufWriter::new(alloc, out)?;
-    let verdict = run_on(alloc, script, &stops, image, &mut out)?;
-    out.flush()?;
-    Ok(verdict)
-}
-
 /// Makes the image's device, then runs a script and returns the verdict.
 ///
 /// # Errors
@@ -212,7 +194,7 @@ fn verdict_as_told<R: Read + Drop, W: Write + Drop>(
     Ok(verdict)
 }
 
-/// Reads a script, runs it with an image, and returns the verdict.
+/// Reads a script, runs it with an image through a buffer, and returns the verdict.
 fn image_verdict_of<R: Read + Drop, M: MakeImage + Drop, W: Write + Drop>(
     alloc: Global,
     words: &RunWords<'_>,
@@ -223,13 +205,15 @@ fn image_verdict_of<R: Read + Drop, M: MakeImage + Drop, W: Write + Drop>(
     ensures run { IfOk result (HasRun IsRunWithImage (R.remaining script) words.now) }
     ensures right { IfOk result (λ right. right ≡ true) }
 {
-    match read_script(alloc, script) {
-        Ok(script) => run_buffered(alloc, words, &script, image, out),
-        Err(fault) => Err(fault),
-    }
+    let script = read_script(alloc, script)?;
+    let stops = stops_of(words);
+    let mut out = BufWriter::new(alloc, out)?;
+    let verdict = run_on(alloc, &script, &stops, image, &mut out)?;
+    out.flush()?;
+    Ok(verdict)
 }
 
-/// Reads a script, runs it, and returns the verdict.
+/// Reads a script, runs it through a buffer, and returns the verdict.
 fn verdict_of<R: Read + Drop, W: Write + Drop>(
     alloc: Global,
     words: &RunWords<'_>,
@@ -239,41 +223,14 @@ fn verdict_of<R: Read + Drop, W: Write + Drop>(
     ensures run { IfOk result (HasRun IsRunOf (R.remaining script) words.now) }
     ensures right { IfOk result (λ right. right ≡ true) }
 {
-    match read_script(alloc, script) {
-        Ok(script) => run_script(alloc, words, &script, out),
-        Err(fault) => Err(fault),
-    }
-}
-
-/// Runs a script through a buffer, and returns the verdict.
-fn run_script<W: Write + Drop>(
-    alloc: Global,
-    words: &RunWords<'_>,
-    script: &Script,
-    out: W,
-) -> Result<bool, Fault>
-    ensures run { IfOk result (IsRunAsTold IsRunOf words.now script.now) }
-    ensures right { IfOk result (λ right. right ≡ true) }
-{
+    let script = read_script(alloc, script)?;
     let stops = stops_of(words);
     let mut out = BufWriter::new(alloc, out)?;
-    let verdict = run_to(alloc, script, &stops, &mut out)?;
-    out.flush()?;
-    Ok(verdict)
-}
-
-/// Runs a script with these stops, and returns the verdict.
-fn run_to(
-    alloc: Global,
-    script: &Script,
-    stops: &Stops<'_>,
-    out: &mut impl Write,
-) -> Result<bool, Fault>
-    ensures run { IfOk result (IsRunOf script.now stops.now) }
-    ensures right { IfOk result (λ right. right ≡ true) }
-{
-    match script_run::run(alloc, script, stops, out) {
-        Ok(verdict) => Ok(verdict),
+    match script_run::run(alloc, &script, &stops, &mut out) {
+        Ok(verdict) => {
+            out.flush()?;
+            Ok(verdict)
+        }
         Err(fault) => Err(of_run(fault)),
     }
 }

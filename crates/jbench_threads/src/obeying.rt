@@ -41,22 +41,8 @@ pub fn obey<T: Threads + Wait + Sync, C: Contents + Send, W: Write + Drop, E: Wr
         Words::Threads(path) => threads_file(rt, threads, path, out, err),
         Words::Bench(words) => bench_files(rt, threads, contents, words, out, err),
         Words::Serve(words) => serve_files(rt, threads, contents, words, err),
-        _ => obey_alone(rt, contents, words, out, err),
+        _ => alone::obey(rt, contents, words, out, err),
     }
-}
-
-/// Runs a command that starts no threads.
-fn obey_alone<C: Contents, W: Write + Drop, E: Write + Drop>(
-    rt: &HostRuntime,
-    contents: C,
-    words: &Words<'_>,
-    out: W,
-    err: E,
-) -> io::Result<Status>
-    ensures done { IfOk result (λ status. status ≡ Fine → HasObeyed C.contents ⟦<Text as Read>⟧.remaining (W.contents out) words.now) }
-    ensures wrong { IfOk result (λ status. status ≡ VerdictFalse → HasFoundWrong ⟦<Text as Read>⟧.remaining words.now) }
-{
-    alone::obey(rt, contents, words, out, err)
 }
 
 /// Runs the clients of a script's file in threads.

@@ -1,7 +1,9 @@
-use Rattle.std.proofs.lemmas.Result.{IfOk-weaker}
 use Rattle.jbench_commands.proofs.run.image_verdict_of.Goals as goal
 
--- of the script that was read
-pub returns-in-Ok-clause-run : goal.returns-in-Ok-clause-run
-returns-in-Ok-clause-run g c =
-    IfOk-weaker c.run_buffered.result _ _ (λ right run. record { script = c.in-Ok.script; taken = c.in-Ok.ensures; run = run }) c.run_buffered.ensures.run
+-- of the script that was read, with the stops of the words
+pub returns-clause-run : goal.returns-clause-run
+returns-clause-run g c = record {
+  script = c.in_ok-script.script;
+  taken = c.in_ok-script.ensures;
+  run = record { stops = c.stops_of-stops.result; told = c.stops_of-stops.ensures; run = c.in_ok-verdict.ensures.run };
+}

@@ -1,4 +1,5 @@
 use Rattle.jbench_commands.proofs.Ending.{never-wrong}
+use Rattle.jbench_threads.proofs.Alone.{done-alone, wrong-alone}
 use Rattle.jbench_threads.proofs.obeying.obey.Goals as goal
 
 -- clients ran in threads
@@ -21,3 +22,10 @@ returns-in-Bench-clause-wrong g c = rw c.in-Bench.is (never-wrong c.bench_files.
 
 pub returns-in-Serve-clause-wrong : goal.returns-in-Serve-clause-wrong
 returns-in-Serve-clause-wrong g c = rw c.in-Serve.is (never-wrong c.serve_files.result c.serve_files.ensures.other)
+
+-- a command that starts no threads
+pub returns-in_default-clause-done : goal.returns-in_default-clause-done
+returns-in_default-clause-done g c = done-alone _ _ _ c.args.words.now c.obey.result c.obey.ensures.done
+
+pub returns-in_default-clause-wrong : goal.returns-in_default-clause-wrong
+returns-in_default-clause-wrong g c = wrong-alone _ c.args.words.now c.obey.result c.obey.ensures.wrong
