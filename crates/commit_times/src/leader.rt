@@ -1,7 +1,7 @@
 //! The leader: the client that takes the turns for all that wait.
 use crate::spin;
 use block_device::Device;
-use event_counter::EventCounter;
+use shared_journal::EventCounter;
 use journal_model::JournalError;
 use shared_journal::{CheckTurn, Journal, JournalName, Turn};
 use std::sync::{Mutex, Wait};

@@ -1,5 +1,5 @@
 //! Lets a thread look again for a short while before it sleeps.
-use event_counter::EventCounter;
+use shared_journal::EventCounter;
 use std::sync::Wait;
 use std::thread;
 

@@ -1,8 +1,13 @@
-//! The program `jbench`: gives its words, standard output and standard error to the commands of `jbench_threads`.
+//! The program `jbench`: reads its words, and holds closed standard streams so that no log file gets their number.
+//!
+//! `obeying` runs the command that the words name, and `serving` is the command `serve`.
 #![tactic(auto)]
 
+mod obeying;
+mod serving;
+
+use crate::obeying::obey;
 use file_device::UnknownContents;
-use jbench_threads::obeying::obey;
 use jbench_words::fault::{Status, refuse_file, refuse_rest};
 use jbench_words::{arguments, words};
 use std::fs::File;

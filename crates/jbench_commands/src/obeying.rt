@@ -35,7 +35,7 @@ use std::io;
 use std::io::{ErrorKind, Read, Write};
 
 /// Runs the command that the words name. `contents` is what a log's files are assumed to hold. `threads`, `bench` and `serve` are refused
-/// like a lack of memory, as they need threads; `jbench_threads` has them.
+/// like a lack of memory, as they need threads; `crash_bench` has them.
 pub fn obey<C: Contents, W: Write + Drop, E: Write + Drop>(
     rt: &HostRuntime,
     contents: C,

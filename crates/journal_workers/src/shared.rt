@@ -1,6 +1,6 @@
 //! What all threads share with the journal: who waits, and who is woken for what.
 use block_device::Device;
-use event_counter::EventCounter;
+use shared_journal::EventCounter;
 use journal_model::Tid;
 use shared_journal::{Journal, JournalName, Record};
 use std::sync::atomic::{AtomicU64, Ordering};

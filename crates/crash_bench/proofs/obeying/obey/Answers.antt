@@ -1,6 +1,6 @@
 use Rattle.jbench_commands.proofs.Ending.{never-wrong}
-use Rattle.jbench_threads.proofs.Alone.{done-alone, wrong-alone}
-use Rattle.jbench_threads.proofs.obeying.obey.Goals as goal
+use Rattle.crash_bench.proofs.Alone.{done-alone, wrong-alone}
+use Rattle.crash_bench.proofs.obeying.obey.Goals as goal
 
 -- clients ran in threads
 pub returns-in-Threads-clause-done : goal.returns-in-Threads-clause-done

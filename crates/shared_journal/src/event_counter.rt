@@ -1,5 +1,4 @@
 //! What threads sleep on: a count of events.
-#![tactic(auto)]
 
 use std::sync::Wait;
 use std::sync::atomic::{AtomicU64, Ordering};

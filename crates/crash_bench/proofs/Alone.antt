@@ -7,7 +7,7 @@ use Rattle.jbench_words.specs.declared.fault.Status.TheVariants.{Fine, VerdictFa
 use Rattle.jbench_words.specs.declared.words.Words.{Words}
 use Rattle.jbench_words.specs.declared.words.Words.TheVariants.{Run, Sweep, Check, Threads, Format, Dump, Cat, Show, Recover, Upgrade, Apply, Bench, Serve, Completions, Man}
 use Rattle.jbench_commands.specs.Obeying.{TextReads, HasFoundWrong as HasFoundWrongAlone, HasObeyed as HasObeyedAlone}
-use Rattle.jbench_threads.specs.Obeying.{HasFoundWrong, HasObeyed}
+use Rattle.crash_bench.specs.Obeying.{HasFoundWrong, HasObeyed}
 
 -- what it did alone was done
 pub obeyed : (first : FileContents) (reads : TextReads) (contents : Option (List ℕ)) (words : Words) → HasObeyedAlone first reads contents words → HasObeyed first reads contents words

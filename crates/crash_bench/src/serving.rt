@@ -25,7 +25,7 @@ use std::thread::Threads;
 /// # Errors
 ///
 /// The lines could not be written.
-pub fn serve<
+pub(crate) fn serve<
     T: Threads + Wait + Sync,
     D: Device + Send + Drop,
     I: Read + Send + Drop,

@@ -1,5 +1,5 @@
 use Rattle.std.proofs.lemmas.Result.{IfOk-weaker}
-use Rattle.jbench_threads.proofs.obeying.threads_file.Goals as goal
+use Rattle.crash_bench.proofs.obeying.threads_file.Goals as goal
 
 -- the opened file was run
 pub returns-in-Ok-clause-done : goal.returns-in-Ok-clause-done

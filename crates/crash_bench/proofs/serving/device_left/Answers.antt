@@ -1,5 +1,5 @@
-use Rattle.jbench_threads.proofs.Closed.{closed_left}
-use Rattle.jbench_threads.proofs.serving.device_left.Goals as goal
+use Rattle.crash_bench.proofs.Closed.{closed_left}
+use Rattle.crash_bench.proofs.serving.device_left.Goals as goal
 
 -- the journal was closed
 pub returns-in-Ok : goal.returns-in-Ok

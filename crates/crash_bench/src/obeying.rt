@@ -2,7 +2,7 @@
 ghost use Rattle.std.specs.Prelude.{◌≡◌, ◌≢◌, ◌↔◌, IfOk, IfSome, IsSome};
 ghost use Rattle.jbench_words.specs.declared.fault.Status.TheVariants.{Fine, Refused, VerdictFalse};
 ghost use Rattle.jbench_commands.specs.Obeying.{IsOfText};
-ghost use Rattle.jbench_threads.specs.Obeying.{HasFoundWrong, HasObeyed, IsClosedDone, IsClosedLeft};
+ghost use Rattle.crash_bench.specs.Obeying.{HasFoundWrong, HasObeyed, IsClosedDone, IsClosedLeft};
 ghost use Rattle.script_threads.specs.Runs.{HasFoundFalse, HasServed};
 
 use crate::serving;
@@ -26,7 +26,7 @@ const AHEAD: usize = 65_536;
 /// # Errors
 ///
 /// The output could not be written, or memory ran out.
-pub fn obey<T: Threads + Wait + Sync, C: Contents + Send, W: Write + Drop, E: Write + Drop>(
+pub(crate) fn obey<T: Threads + Wait + Sync, C: Contents + Send, W: Write + Drop, E: Write + Drop>(
     rt: &HostRuntime,
     threads: &T,
     contents: C,
