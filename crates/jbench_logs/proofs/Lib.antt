@@ -1,2 +1,2 @@
-mod ReadsBehind
+mod ReadsAfter
 mod LeftLines

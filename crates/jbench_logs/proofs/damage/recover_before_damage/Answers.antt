@@ -1,5 +1,5 @@
 use Rattle.damaged_logs.specs.Before.{IsMomentBefore}
-use Rattle.jbench_logs.proofs.ReadsBehind.{each-read}
+use Rattle.jbench_logs.proofs.ReadsAfter.{each-read}
 use Rattle.jbench_logs.proofs.damage.recover_before_damage.Goals as goal
 
 -- after a refusal the device is only read

@@ -5,7 +5,7 @@ use Rattle.block_device.specs.State.{DeviceState}
 use Rattle.recovery.specs.Making.{IsMakingMoment}
 use Rattle.jbench_logs.specs.Done.{IsMakeMoment}
 use Rattle.jbench_logs.specs.Done.IsMakeMoment.{OfHome, OfLog}
-use Rattle.jbench_logs.proofs.ReadsBehind.{each-flushed, each-of-log, each-read}
+use Rattle.jbench_logs.proofs.ReadsAfter.{each-flushed, each-of-log, each-read}
 use Rattle.jbench_logs.proofs.logs.make_log.Goals as goal
 
 -- no log was made

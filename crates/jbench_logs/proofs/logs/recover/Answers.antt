@@ -1,5 +1,5 @@
 use Rattle.log_epochs.specs.OpeningRun.{IsMoment}
-use Rattle.jbench_logs.proofs.ReadsBehind.{each-read}
+use Rattle.jbench_logs.proofs.ReadsAfter.{each-read}
 use Rattle.jbench_logs.proofs.logs.recover.Goals as goal
 
 -- after a refusal the device is only read
