@@ -1,9 +1,8 @@
 //! The leader: the client that takes the turns for all that wait.
 use crate::spin;
 use block_device::Device;
-use shared_journal::EventCounter;
 use journal_model::JournalError;
-use shared_journal::{CheckTurn, Journal, JournalName, Turn};
+use shared_journal::{CheckTurn, EventCounter, Journal, JournalName, Turn};
 use std::sync::{Mutex, Wait};
 
 /// What clients wait for.

@@ -69,25 +69,31 @@ pub(crate) fn write_refusal<W: Write>(out: &mut W, e: JournalError) -> io::Resul
 
 /// Writes the words of a line as members: `KEY=NUMBER` is a number, `KEY=none` is null, and a single word is true.
 pub fn write_members<W: Write>(out: &mut W, words: &str) -> io::Result<()> {
-    let mut comma = "";
+    let mut is_later = false;
     for word in words.split_whitespace() {
-        match word.split_once('=') {
-            Some((key, "none")) => write!(out, "{comma}\"{key}\":null")?,
-            Some((key, number)) => write!(out, "{comma}\"{key}\":{number}")?,
-            None => write!(out, "{comma}\"{word}\":true")?,
+        if is_later {
+            write!(out, ",")?;
         }
-        comma = ",";
+        match word.split_once('=') {
+            Some((key, "none")) => write!(out, "\"{key}\":null")?,
+            Some((key, number)) => write!(out, "\"{key}\":{number}")?,
+            None => write!(out, "\"{word}\":true")?,
+        }
+        is_later = true;
     }
     Ok(())
 }
 
 /// Writes the lines of a text as a list.
 pub(crate) fn write_lines<W: Write>(out: &mut W, text: &[u8]) -> io::Result<()> {
-    let mut comma = "";
+    let mut is_later = false;
     write!(out, "[")?;
     for line in from_utf8(text).unwrap_or("").lines() {
-        write!(out, "{comma}\"{}\"", line.trim_start())?;
-        comma = ",";
+        if is_later {
+            write!(out, ",")?;
+        }
+        write!(out, "\"{}\"", line.trim_start())?;
+        is_later = true;
     }
     write!(out, "]")
 }

@@ -1,8 +1,7 @@
 //! What all threads share with the journal: who waits, and who is woken for what.
 use block_device::Device;
-use shared_journal::EventCounter;
 use journal_model::Tid;
-use shared_journal::{Journal, JournalName, Record};
+use shared_journal::{EventCounter, Journal, JournalName, Record};
 use std::sync::atomic::{AtomicU64, Ordering};
 
 /// What all threads share.
