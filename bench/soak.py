@@ -367,18 +367,20 @@ class Soak:
     def __init__(self, a, volume):
         self.a, self.volume, self.draw, self.totals = a, volume, random.Random(a.seed), collections.Counter()
         self.model, self.watch = Model(volume.size // BLOCK, a.blocks // RUN, self.draw), Watch(volume, a.length)
-        self.server = None
+        self.server, self.opened = None, 0  # seconds of the last opening
 
     def open(self):
         """Starts the program and connects to it."""
         if self.totals["rounds"] and self.draw.random() < 0.3:
             self.server, ours = self.volume.serve()
-            time.sleep(self.draw.uniform(0, 0.05))
+            time.sleep(self.draw.uniform(0, self.opened))
             self.kill()
             ours.close()
             self.totals["openings killed"] += 1
+        begun = time.monotonic()
         self.server, ours = self.volume.serve()
         connection = Connection(ours)
+        self.opened = time.monotonic() - begun
         expect(connection.size == self.volume.size, "the export has", connection.size, "bytes")
         self.watch.begin(self.server)
         return connection
@@ -410,9 +412,9 @@ class Soak:
 
     def round(self, seconds):
         """Opens, checks, has four clients at work, kills, and tells."""
-        begun, counts, turn = time.monotonic(), collections.Counter(), self.totals["rounds"] + 1
+        counts, turn = collections.Counter(), self.totals["rounds"] + 1
         connection = self.open()
-        opened = time.monotonic() - begun
+        begun = time.monotonic()
         kept, uncovered = self.check(connection.read)
         self.watch.look(0)
         checked = time.monotonic()
@@ -436,7 +438,7 @@ class Soak:
         self.totals.update(counts)
         self.totals["rounds"] += 1
         print(
-            f"round {turn}: opened in {opened:.1f} s, {len(self.model.settled)} blocks checked in {checked - begun - opened:.1f} s,",
+            f"round {turn}: opened in {self.opened:.2f} s, {len(self.model.settled)} blocks checked in {checked - begun:.1f} s,",
             f"{kept} of {uncovered} writes after the last flush found;",
             f"{counts['writes']} writes, {counts['flushes']} flushes, {counts['reads']} reads, {counts['blocks written'] * BLOCK / MIB:.0f} MiB written;",
             f"memory {self.watch.rss[-1][1] / MIB:.1f} MiB, most {self.watch.most / MIB:.1f}; log {log:.1f} MiB, home {home:.1f} MiB",
@@ -488,7 +490,9 @@ def main():
         print(f"interrupted after {soak.totals['rounds'] if soak else 0} rounds, 0 faults")
         status = 130
     except (Fault, OSError, subprocess.SubprocessError) as fault:
-        print(f"fault in round {soak.totals['rounds'] + 1 if soak else 0}: {fault}; the files are kept in {folder}", flush=True)
+        said = soak.volume.said.read_text(errors="replace") if soak else (getattr(fault, "stderr", None) or b"").decode(errors="replace")
+        said = f"; the program said: {' '.join(said.split())[-300:]}" if said.strip() else ""
+        print(f"fault in round {soak.totals['rounds'] + 1 if soak else 0}: {fault}{said}; the files are kept in {folder}", flush=True)
         status = 1
     finally:
         if soak:

@@ -14,7 +14,7 @@ KIND says what is wrong from the third second of an opening on:
 - stale: a read gives what HOME has.
 - misplaced: one write goes to the block after its own.
 - old: an opening drops the last records.
-- leak: memory grows with the requests; slow: with few of them.
+- leak: memory grows with the requests; slow: by 2 MiB a second, which wants rounds of 30 seconds.
 - growth: memory grows with the openings.
 - descriptors: a file is opened for each read, and stays open.
 - file: LOG grows.
@@ -93,8 +93,10 @@ class Server:
         self.keep_late(self.due())
         for k in range(0, len(data), BLOCK):
             self.newest[(place + k) // BLOCK] = data[k : k + BLOCK]
-        if self.is_wrong("leak") or self.is_wrong("slow") and not self.count % 8:
+        if self.is_wrong("leak"):
             self.kept.append(bytearray(data))
+        if self.is_wrong("slow") and len(self.kept) < 2 * (time.monotonic() - self.began - 3):
+            self.kept.append(os.urandom(1 << 20))
         if self.is_wrong("file"):
             os.pwrite(self.log, b"x", self.room + BLOCK)
 
