@@ -10,7 +10,7 @@ home (default: 262144), in places of 512 blocks over all of it: so the files tak
 (default: that for temporary files), which is deleted after a run without a fault, and kept after a fault.
 
 The four clients are threads that share one connection. Each has places of its own and some that all four share. A write is one handle: it has
-up to as many blocks as the export's description allows. Writes are numbered in the order in which they are sent, and each of their blocks
+up to as many blocks as the export's description allows, and 512 at most. Writes are numbered in the order in which they are sent, and each of their blocks
 has a stamp: the round, the client, that number, the block, and which blocks the write has. One block in four begins with the journal's magic
 number, so that the log has to escape it. While the program runs, a read has to give what was sent last before it. After a kill, the volume has to
 hold the first of the writes, each whole, up to a number that is no smaller than any that an answered flush or FUA covers. A flush covers the
@@ -19,8 +19,8 @@ program is also killed while it opens the log. At the end the client disconnects
 
 Limits, which are faults when they are passed:
 
-- The greatest memory (VmHWM): 64 MiB and four times the log. The program keeps what is not in HOME yet, which is less than the log, and
-  an opening reads the log once. Nothing may grow with the home area, the requests or the rounds. A slow leak wants a large S.
+- The greatest memory (VmHWM): 64 MiB and four times the log. The program keeps a request or two and what is not in HOME yet, which is
+  hardly more than the log, and an opening reads the log once. Nothing may grow with the home area, the requests or the rounds. A slow leak wants a large S.
 - The memory (VmRSS) in the last third of a round: an eighth and 8 MiB above the most in the second third. By then the log has gone round.
 - The greatest memory of a round: a quarter and 8 MiB above the most in the first five rounds.
 - Open descriptors: as many as when the first round began. The program opens its files once.
@@ -29,7 +29,7 @@ Limits, which are faults when they are passed:
 
 It ends with status 1 at the first fault, and one line that names it. It prints a line a round. A kill leaves what the system was given; it is no
 loss of power, which is what serve_power.py is for. When a kill comes is up to the machine, so the same seed does not give the same run.
-The program is `./jbench`, which is built first, or the one at PATH. `wrong_server.py` shows that each fault is found.
+The program is `./jbench`, which is built first, or the one at PATH. `wrong_server.py` has faults that it finds.
 """
 import argparse
 import array
@@ -38,7 +38,7 @@ import hashlib
 import os
 import random
 import shutil
-import socket
+import signal
 import struct
 import subprocess
 import sys
@@ -428,6 +428,7 @@ class Soak:
             expect(not connection.gone, "the program ends by itself, with status", self.server.wait() if connection.gone else None)
             self.watch.look(part)
         self.kill()
+        expect(self.server.returncode == -signal.SIGKILL, "the program ends by itself, with status", self.server.returncode)
         for thread in threads:
             thread.join(PATIENCE)
         connection.close()
