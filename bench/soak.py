@@ -263,8 +263,8 @@ class Client:
         places = self.places[self.own if draw.random() < 0.6 else SHARED]
         place = draw.choice(places[:8] if draw.random() < 0.4 else places)
         kind = draw.random()
-        count = 1 if kind < 0.4 else draw.randint(2, 8) if kind < 0.9 else draw.randint(9, 64) if kind < 0.99 else draw.randint(65, self.most)
-        count = min(count, self.most)
+        least, most = (1, 1) if kind < 0.4 else (2, 8) if kind < 0.9 else (9, 64) if kind < 0.99 else (65, RUN)
+        count = min(draw.randint(least, most), self.most)
         return place * RUN + draw.randint(0, RUN - count), count
 
     def once(self):
