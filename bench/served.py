@@ -23,14 +23,17 @@ def add_program(arguments):
 
 
 class Volume:
-    """A log and its home area in a folder, made anew."""
+    """A log and its home area in a folder, made anew; a sparse home area is a hole."""
 
-    def __init__(self, program, folder, block, length, home):
+    def __init__(self, program, folder, block, length, home, sparse=False):
         self.program, self.block, self.size = program, block, block * home
         self.log, self.home = Path(folder) / "log", Path(folder) / "home"
         self.said = Path(folder) / "said"
-        words = [program, "format", self.log, self.home, "--block", str(block), "--length", str(length), "--home", str(home)]
-        subprocess.run(words, check=True, capture_output=True)
+        words = [program, "format", self.log, self.home, "--block", str(block), "--length", str(length)]
+        if sparse:
+            with open(self.home, "wb") as file:
+                file.truncate(self.size)
+        subprocess.run([*words, "--keep-home"] if sparse else [*words, "--home", str(home)], check=True, capture_output=True)
 
     def words(self, *options):
         return [str(word) for word in (self.program, "serve", self.log, self.home, *options)]
