@@ -301,7 +301,8 @@ fn expected_home(rt: &HostRuntime) -> io::Result<Vec<u8>> {
 
 /// Whether the home file has what the threads wrote. Removes the folder.
 fn is_home(rt: &HostRuntime) -> io::Result<bool> {
-    let (home, expected) = (fs::read(rt, HOME)?, expected_home(rt)?);
+    let home = fs::read(rt, HOME)?;
+    let expected = expected_home(rt)?;
     fs::remove_dir_all(rt, FOLDER)?;
     Ok(home.as_slice() == expected.as_slice())
 }
