@@ -1,7 +1,7 @@
 #!/usr/bin/env -S python3 -B
 """Each request for memory of `jbench` refused in turn: no answer but that of the call that was refused may be another one.
 
-usage: refused_memory.py [--program PATH] [--tests PATH] [COUNT [SEED]]
+usage: refused_memory.py [--program PATH] [--tests PATH].. [COUNT [SEED]]
     the rows below, and so many random scripts (default: 0, from seed 1)
 
 A wrapper of the C library's malloc and realloc (refused_memory.c) refuses one request of the program, for each of its requests in turn; a
@@ -20,9 +20,9 @@ starts try how many credits are held: one of just those that are left, and one o
 
 `threads` with two clients prints the seven lines of a run with ample memory, or nothing but `jbench: client I refused 1 Memory`; or the
 device of these clients fails, which is in memory too, and each that is refused then is refused `3 Aborted`; or the program itself is refused.
-Such clients are also a test of `library_tests`, which looks at what came of them itself: one that was refused Memory ended alone, with
-its handle stopped, and what is left opens to all receipts. A close that has to finish a commit is a test too: where it is
-refused Memory it has written nothing. Both are run where --tests names the built tests of that crate, as `rt test` and `rt ci` leave them in
+Such clients are also a test of `thread_tests`, which looks at what came of them itself: one that was refused Memory ended alone, with
+its handle stopped, and what is left opens to all receipts. A close that has to finish a commit is a test of `library_tests`: where it is
+refused Memory it has written nothing. Each is run where a --tests names the built tests of its crate, as `rt test` and `rt ci` leave them in
 its `out/`. Which request is the Kth depends on how the threads run, so each K is tried a few times.
 
 The seal of a transaction of six copies asks for memory as often as that of one: it copies no block.
@@ -363,6 +363,20 @@ def judge_test(refuser, name, test, cases, wanted, times):
         print(f"{name}: never came to this: {wanted}")
 
 
+JUDGES = {"library_tests_tests": judge_close, "thread_tests_tests": judge_clients}  # by the name of the program that has the test
+
+
+def tests_of(words):
+    """The program behind each --tests, with what judges it; and the words behind these."""
+    tests = {}
+    while words[:1] == ["--tests"]:
+        path, words = Path(words[1]).resolve(), words[2:]
+        if path.name not in JUDGES:
+            sys.exit(f"{path}: none of {', '.join(JUDGES)}")
+        tests[path] = JUDGES[path.name]
+    return tests, words
+
+
 # ---- how often a seal asks for memory
 
 
@@ -488,7 +502,7 @@ def random_script(draw):
 
 def main(words):
     program, words = program_of(words)
-    tests, words = (Path(words[1]).resolve(), words[2:]) if words[:1] == ["--tests"] else (None, words)
+    tests, words = tests_of(words)
     count, seed = count_and_seed(words, 0)
     with tempfile.TemporaryDirectory() as folder:
         refuser = Refuser(program, Path(folder))
@@ -499,9 +513,8 @@ def main(words):
         judge_commands(refuser)
         judge_seals(refuser)
         judge_threads(refuser, HERE.parent / "examples" / "two_clients.json")
-        if tests:
-            judge_clients(refuser, tests)
-            judge_close(refuser, tests)
+        for path, judge in tests.items():
+            judge(refuser, path)
         draw = random.Random(seed)
         for number in range(count):
             script = Script([], False)

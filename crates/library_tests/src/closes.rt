@@ -1,6 +1,5 @@
 //! A close that finishes a commit asks for all its memory before its first device call. The gate refuses no request:
 //! `bench/refused_memory.py` runs this test once for each request, and refuses it.
-use crate::logs::{formatted, opened};
 use crate::newest::{change, journal_on};
 use block_device::MemDevice;
 use group_commit::{Journal, Parts};
@@ -8,6 +7,7 @@ use journal_model::{JournalError, Sealed};
 use std::alloc::Global;
 use std::ops::Range;
 use std::test::Fail;
+use test_logs::{formatted, opened};
 
 /// A journal whose record is kept as data.
 type Kept = Journal<MemDevice, Vec<Sealed>>;

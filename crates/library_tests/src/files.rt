@@ -69,7 +69,7 @@ fn make_folder(rt: &HostRuntime, folder: &str) -> io::Result<()> {
 }
 
 /// A device over the files `log` and `home` in a new folder.
-pub fn device_over(
+fn device_over(
     rt: &HostRuntime,
     folder: &str,
     block_size: usize,
@@ -89,7 +89,7 @@ fn holds_at(rt: &HostRuntime, path: &str, bytes: &[u8]) -> io::Result<bool> {
 }
 
 /// Whether a file of a folder holds exactly these bytes.
-pub fn holds(rt: &HostRuntime, folder: &str, name: &str, bytes: &[u8]) -> io::Result<bool> {
+fn holds(rt: &HostRuntime, folder: &str, name: &str, bytes: &[u8]) -> io::Result<bool> {
     holds_at(rt, path_of(rt, folder, name)?.as_str(), bytes)
 }
 

@@ -14,21 +14,11 @@ mod example;
 #[cfg(test)]
 mod files;
 #[cfg(test)]
-mod four;
-#[cfg(test)]
 mod gathered;
-#[cfg(test)]
-mod held;
-#[cfg(test)]
-mod logs;
 #[cfg(test)]
 mod newest;
 #[cfg(test)]
 mod reconciliations;
-#[cfg(test)]
-mod reopened;
-#[cfg(test)]
-mod service;
 #[cfg(test)]
 mod shares;
 #[cfg(test)]
@@ -36,10 +26,4 @@ mod sides;
 #[cfg(test)]
 mod tables;
 #[cfg(test)]
-mod threads;
-#[cfg(test)]
-mod timed;
-#[cfg(test)]
 mod touches;
-#[cfg(test)]
-mod waiting;

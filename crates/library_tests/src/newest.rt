@@ -1,18 +1,13 @@
-//! Reads without a handle, in a journal of one thread and a shared one: they see what a handle's read would, and note nothing.
-ghost use Rattle.std.specs.Prelude.{◌≡◌};
+//! Reads without a handle, in a journal of one thread: they see what a handle's read would, and note nothing.
 
 use crate::bytes::expect;
-use crate::logs::{BLOCK_SIZE, formatted, opened};
 use block_device::{Device, FailOnce, MemDevice};
 use group_commit::{Journal, Record, Ticket, Turn};
 use journal_model::{BlockNo, JournalError};
 use recovery::Opened;
-use shared_journal::{Journal as Shared, JournalName, UnnamedJournal, create};
 use std::alloc::Global;
-use std::marker::Brand;
-use std::process::Abort;
-use std::sync::Wait;
 use std::test::Fail;
+use test_logs::{BLOCK_SIZE, formatted, opened};
 
 type Read = Journal<FailOnce<MemDevice>>;
 
@@ -166,47 +161,5 @@ fn a_read_without_a_handle_fails_with_the_device(rt: HostRuntime) -> Result<(), 
     let told = read_twice(&mut journal(rt.alloc(), calls.saturating_add(1))?);
     let expected = (Err(JournalError::Device), true, Err(JournalError::Aborted));
     expect(&rt, &told, &expected);
-    Ok(())
-}
-
-/// The first byte of a block, in a shared journal.
-fn first_shared<J: JournalName, R: Wait>(
-    rt: &R,
-    journal: &Shared<J, FailOnce<MemDevice>>,
-    block: u64,
-) -> Result<u8, JournalError> {
-    let mut bytes = [0xee; 1024];
-    if journal.block_size() != 1024 {
-        return Err(JournalError::TooMany);
-    }
-    journal.read_newest(rt, BlockNo(block), &mut bytes)?;
-    Ok(bytes[0])
-}
-
-/// Reads a home block and one that home lacks. Returns how many transactions are committed at the close.
-fn only_read<J: JournalName, R: Wait + Abort>(
-    rt: &R,
-    unnamed: UnnamedJournal<FailOnce<MemDevice>>,
-) -> u64
-    requires name { unnamed.name ≡ J.name }
-{
-    let (journal, _seat) = unnamed.named::<J>();
-    assert_eq!(rt; first_shared(rt, &journal, 9), Ok(0));
-    assert_eq!(rt; first_shared(rt, &journal, 64), Err(JournalError::BadBlock));
-    let Ok(parts) = journal.close() else {
-        panic!(rt; "the close is refused")
-    };
-    parts.committed
-}
-
-#[test]
-fn a_read_without_a_handle_makes_no_transaction_of_a_shared_journal(
-    rt: HostRuntime,
-) -> Result<(), Fail> {
-    let Ok(unnamed) = create(rt.alloc(), empty(rt.alloc(), 0)?) else {
-        panic!(rt; "the journal is refused")
-    };
-    let committed = only_read::<Brand, _>(&rt, unnamed);
-    assert_eq!(rt; committed, 0);
     Ok(())
 }

@@ -2,7 +2,6 @@
 ghost use Rattle.std.specs.Prelude.{◌≡◌};
 
 use crate::bytes::expect;
-use crate::logs::{formatted, opened};
 use block_device::MemDevice;
 use journal_model::{BlockNo, JournalError, Tid};
 use journal_sides::{EngineSide, FrontSide, SidesReconciler, UnnamedSides, reconcile, seal};
@@ -12,6 +11,7 @@ use parts::PartsName;
 use std::marker::Brand;
 use std::process::Abort;
 use std::test::Fail;
+use test_logs::{formatted, opened};
 
 /// A handle revokes one block, and stops.
 fn revoke_one<J: PartsName>(front: &mut FrontSide<J, MemDevice>, block: u64) -> bool {

@@ -1,5 +1,0 @@
-use Rattle.library_tests.proofs.waiting.waited_over.Given as goal
-
--- the name is the unnamed journal's
-abbrev pub ghosts-waited : goal.ghosts-waited
-ghosts-waited g a = record { name = a.unnamed.name }

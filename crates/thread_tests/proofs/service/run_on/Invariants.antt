@@ -1,0 +1,5 @@
+use Rattle.thread_tests.proofs.service.run_on.Given as goal
+
+-- the name is the unnamed journal's
+abbrev pub ghosts-try_run : goal.ghosts-try_run
+ghosts-try_run g a = record { name = a.unnamed.name }

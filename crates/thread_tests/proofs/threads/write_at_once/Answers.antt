@@ -1,0 +1,34 @@
+use mir.Syntax.{named}
+use denote.Exit as exit
+use denote.Param.{param}
+use denote.Param.Send.{AllSend, arg_send, param_send, shr_send}
+use denote.Struct.Field.{shr_ref_field}
+use Rattle.std.specs.Prelude.{[], ◌∷◌}
+use Rattle.handle.specs.contracts.seat.Seat as Seat
+use Rattle.journal_front.specs.contracts.record.Unrecorded as Unrecorded
+use Rattle.journal_front.specs.contracts.record.UnrecordedRecord.TheImpl as kept
+use Rattle.shared_journal.specs.contracts.journal.Journal as Journal
+use Rattle.shared_journal.proofs.Sent.{closure_send, journal_sync, record_send, seat_send}
+use Rattle.thread_tests.proofs.threads.write_at_once.Lts as lts
+use Rattle.thread_tests.proofs.threads.write_at_once.Goals as goal
+
+-- a closure that holds a journal and a seat may go to another thread
+pub join-first-requires-send-F : goal.join-first-requires-send-F
+join-first-requires-send-F g c κs within =
+    let runtime = (shr_ref_field (record { mir = named 6; lft = κs.1.1.1.1.1.1.0 }) (param 2 g.row.R) tt).row in
+    let journal = Journal.the_row (param 0 g.row.J) (param 1 g.row.D) Unrecorded.the_row g.J.JournalName g.D.Device kept.ghosts in
+    let shared = (shr_ref_field (record { mir = named 7; lft = κs.1.1.1.1.1.1.1.0 }) journal tt).row in
+    let seat = Seat.the_row (param 0 g.row.J) g.J.JournalName in
+    let all : AllSend (runtime ∷ shared ∷ seat ∷ []) = (
+      shr_send _ _ (param 2 g.row.R) c.type_bounds.sync-R,
+      (
+        shr_send _ _ journal
+            (journal_sync (param 0 g.row.J) (param 1 g.row.D) Unrecorded.the_row g.J.JournalName g.D.Device kept.ghosts c.type_bounds.send-J c.type_bounds.sync-J
+            c.type_bounds.send-D record_send),
+        (seat_send (param 0 g.row.J) g.J.JournalName c.type_bounds.send-J, tt),
+      ),
+    ) in
+    param_send 1
+    (lts.arg-0-1 g.row.J g.row.D g.row.R g.J.laws g.D.laws g.R.laws g.J.JournalName g.J.JournalName-dict g.D.Device g.D.Device-dict g.R.Threads
+    g.R.Threads-dict g.R.Wait g.R.Wait-dict κs)
+    (arg_send _ exit.no _ (closure_send (116 ∷ 104 ∷ 114 ∷ 101 ∷ 97 ∷ 100 ∷ 95 ∷ 116 ∷ 101 ∷ 115 ∷ 116 ∷ 115 ∷ 58 ∷ 58 ∷ 116 ∷ 104 ∷ 114 ∷ 101 ∷ 97 ∷ 100 ∷ 115 ∷ 58 ∷ 58 ∷ 102 ∷ 110 ∷ 58 ∷ 58 ∷ 119 ∷ 114 ∷ 105 ∷ 116 ∷ 101 ∷ 95 ∷ 97 ∷ 116 ∷ 95 ∷ 111 ∷ 110 ∷ 99 ∷ 101 ∷ 58 ∷ 58 ∷ 106 ∷ 111 ∷ 105 ∷ 110 ∷ 43 ∷ 97 ∷ 114 ∷ 103 ∷ 50 ∷ 43 ∷ 83 ∷ 101 ∷ 108 ∷ 102 ∷ []) (runtime ∷ shared ∷ seat ∷ []) all))

@@ -1,0 +1,318 @@
+//! Two threads that share one journal, over a device in memory and over files.
+ghost use Rattle.std.specs.Prelude.{◌≡◌};
+
+use crate::journals::{expect, unnamed_on};
+use block_device::{Device, MemDevice};
+use file_device::{FileDevice, UnknownContents};
+use journal_model::BlockNo;
+use shared_journal::{Journal, JournalName, Seat, Status, Tally, Ticket, Turn, UnnamedJournal};
+use std::fs::{File, OpenOptions};
+use std::marker::Brand;
+use std::process::Abort;
+use std::sync::Wait;
+use std::sync::atomic::{AtomicU64, Ordering};
+use std::test::Fail;
+use std::thread::{Threads, join};
+use std::{fs, io};
+use test_logs::formatted;
+
+/// How often each thread reserves.
+const ROUNDS: u64 = 1_000_000;
+
+/// Handles of each thread.
+const HANDLES: u64 = 20;
+
+/// Reserves all credits but one over and over. Returns whether two threads never had them at once.
+fn hammer<J: JournalName, D: Device>(
+    journal: &Journal<J, D>,
+    mut seat: Seat<J>,
+    held: &AtomicU64,
+) -> bool {
+    let most = journal.capacity().saturating_sub(1);
+    let mut within = true;
+    for _ in 0..ROUNDS {
+        if let Ok(credits) = journal.reserve(&mut seat, most) {
+            within = held.fetch_add(1, Ordering::SeqCst) == 0 && within;
+            held.fetch_sub(1, Ordering::SeqCst);
+            journal.give_back(credits);
+        }
+    }
+    within
+}
+
+fn hammer_at_once<J: JournalName + Send + Sync, D: Device + Send, R: Threads + Wait + Sync>(
+    rt: &R,
+    journal: &Journal<J, D>,
+    one: Seat<J>,
+    two: Seat<J>,
+) -> bool {
+    let held = AtomicU64::new(0);
+    let (first, second) = join(
+        rt,
+        || -> bool { hammer(journal, one, &held) },
+        || -> bool { hammer(journal, two, &held) },
+    );
+    first && second
+}
+
+/// Writes blocks from `first` on, each through its own handle. Returns the last ticket.
+fn write_all<J: JournalName, D: Device, R: Wait>(
+    rt: &R,
+    journal: &Journal<J, D>,
+    mut seat: Seat<J>,
+    first: u64,
+) -> Option<Ticket<J>> {
+    if journal.block_size() != 1024 {
+        return None;
+    }
+    let bytes = [7; 1024];
+    let mut last = None;
+    for block in first..first.saturating_add(HANDLES) {
+        match journal.try_start(rt, &mut seat, 1) {
+            Ok(handle) => {
+                let mut handle = handle;
+                let wrote = journal.write(rt, &mut handle, BlockNo(block), &bytes);
+                let left = handle.left();
+                last = Some(journal.stop(rt, handle));
+                if wrote.is_err() || left != 0 {
+                    return None;
+                }
+            }
+            Err(_) => return None,
+        }
+    }
+    last
+}
+
+/// Takes turns until the ticket's transaction is committed.
+fn commit<J: JournalName, D: Device, R: Wait>(
+    rt: &R,
+    journal: &Journal<J, D>,
+    ticket: &mut Ticket<J>,
+) -> bool {
+    if journal.request(rt, ticket).is_err() {
+        return false;
+    }
+    for _ in 0..1000 {
+        match journal.commit_turn(rt) {
+            Ok(Turn::Committed(_)) => return true,
+            Ok(_) => {}
+            Err(_) => return false,
+        }
+    }
+    false
+}
+
+fn write_at_once<J: JournalName + Send + Sync, D: Device + Send, R: Threads + Wait + Sync>(
+    rt: &R,
+    journal: &Journal<J, D>,
+    one: Seat<J>,
+    two: Seat<J>,
+) -> Option<(Ticket<J>, Ticket<J>)> {
+    let (first, second) = join(
+        rt,
+        || -> Option<Ticket<J>> { write_all(rt, journal, one, 0) },
+        || -> Option<Ticket<J>> { write_all(rt, journal, two, 100) },
+    );
+    match (first, second) {
+        (Some(first), Some(second)) => Some((first, second)),
+        _ => None,
+    }
+}
+
+/// Whether both tickets' transactions are committed, and are one; the record confirms both receipts.
+fn both_stand<J: JournalName, D: Device, R: Wait>(
+    rt: &R,
+    journal: &Journal<J, D>,
+    first: Ticket<J>,
+    second: Ticket<J>,
+) -> bool {
+    match (journal.reach(first), journal.reach(second)) {
+        (Ok(first), Ok(second)) => {
+            let (mut first, mut second) = (first, second);
+            journal.audit(rt, &mut first);
+            journal.audit(rt, &mut second);
+            first.tid() == second.tid() && first.handle() != second.handle()
+        }
+        _ => false,
+    }
+}
+
+/// Whether this many credits can be had.
+fn all_are_left<J: JournalName>(
+    journal: &Journal<J, MemDevice>,
+    seat: &mut Seat<J>,
+    all: u64,
+) -> bool {
+    match journal.reserve(seat, all) {
+        Ok(credits) => {
+            journal.give_back(credits);
+            true
+        }
+        Err(_) => false,
+    }
+}
+
+/// A quarter of the ring's 1,023 blocks holds this many copies, three descriptors and a commit block.
+const ALL: u64 = 251;
+
+/// The credits that the entries of both threads hold.
+const HELD: u64 = 2 * HANDLES;
+
+/// A ticket's status, the tally, and whether one credit too many, and exactly the free ones, can be had.
+fn told_before<J: JournalName, R: Wait>(
+    rt: &R,
+    journal: &Journal<J, MemDevice>,
+    seat: &mut Seat<J>,
+    ticket: &Ticket<J>,
+) -> (Status, Tally, [bool; 2]) {
+    let status = journal.status(ticket, seat);
+    let tally = journal.tally(rt, seat);
+    let more = all_are_left(journal, seat, ALL - HELD + 1);
+    (
+        status,
+        tally,
+        [more, all_are_left(journal, seat, ALL - HELD)],
+    )
+}
+
+/// Commits the transaction of both tickets. Returns whether that was done, whether all credits are free, the second ticket's status, and
+/// whether both stand.
+fn told_after<J: JournalName, R: Wait>(
+    rt: &R,
+    journal: &Journal<J, MemDevice>,
+    seat: &mut Seat<J>,
+    tickets: (Ticket<J>, Ticket<J>),
+) -> (bool, bool, Status, bool) {
+    let (mut first, second) = tickets;
+    let committed = commit(rt, journal, &mut first);
+    let left = all_are_left(journal, seat, ALL);
+    let status = journal.status(&second, seat);
+    (
+        committed,
+        left,
+        status,
+        both_stand(rt, journal, first, second),
+    )
+}
+
+/// Two threads reserve at once, then write at once. All is committed in one transaction, and the credits are back.
+fn shared<J: JournalName + Send + Sync, R: Threads + Wait + Abort + Sync>(
+    rt: &R,
+    unnamed: UnnamedJournal<MemDevice>,
+)
+    requires name { unnamed.name ≡ J.name }
+{
+    let (journal, mut seat) = unnamed.named::<J>();
+    let (Some(one), Some(two), Some(three), Some(four)) = (
+        journal.split_seat(&mut seat),
+        journal.split_seat(&mut seat),
+        journal.split_seat(&mut seat),
+        journal.split_seat(&mut seat),
+    ) else {
+        panic!(rt; "there is no further seat")
+    };
+    let within = hammer_at_once(rt, &journal, one, two);
+    let left = all_are_left(&journal, &mut seat, ALL);
+    expect(rt, &(journal.capacity(), within, left), &(ALL, true, true));
+    let Some(tickets) = write_at_once(rt, &journal, three, four) else {
+        panic!(rt; "a handle is refused")
+    };
+    let before = told_before(rt, &journal, &mut seat, &tickets.0);
+    let behind = told_after(rt, &journal, &mut seat, tickets);
+    let Ok(parts) = journal.close() else {
+        panic!(rt; "the close is refused")
+    };
+    let tally = Tally {
+        word: HELD,
+        entries: HELD,
+    };
+    expect(rt, &before, &(Status::Open, tally, [false, true]));
+    expect(rt, &behind, &(true, true, Status::Committed, true));
+    expect(rt, &parts.committed, &1);
+}
+
+#[test]
+fn two_threads_share_a_journal(rt: HostRuntime) -> Result<(), Fail> {
+    let unnamed = unnamed_on(rt.alloc(), formatted(rt.alloc(), 1024, 4096)?)?;
+    shared::<Brand, _>(&rt, unnamed);
+    Ok(())
+}
+
+/// The folder of the files.
+const FOLDER: &str = "two_threads_test";
+
+const LOG: &str = "two_threads_test/log";
+
+const HOME: &str = "two_threads_test/home";
+
+/// Blocks of the home file.
+const HOME_BLOCKS: usize = 128;
+
+/// A new file of this many zeros.
+fn zeros(rt: &HostRuntime, path: &str, bytes: u64) -> io::Result<File> {
+    let file = OpenOptions::new()
+        .read(true)
+        .write(true)
+        .create(true)
+        .open(rt, path)?;
+    file.set_len(bytes)?;
+    Ok(file)
+}
+
+fn two_files(rt: &HostRuntime) -> io::Result<FileDevice<UnknownContents>> {
+    let _ = fs::remove_dir_all(rt, FOLDER);
+    fs::create_dir(rt, FOLDER)?;
+    let log = zeros(rt, LOG, 1024 * 256)?;
+    let home = zeros(rt, HOME, 1024 * HOME_BLOCKS as u64)?;
+    Ok(FileDevice::new(rt.alloc(), UnknownContents, 1024, log, Some(home))?)
+}
+
+/// Two threads write at once; all is committed in one transaction and written home.
+fn written<J: JournalName + Send + Sync, D: Device + Drop + Send, R: Threads + Wait + Abort + Sync>(
+    rt: &R,
+    unnamed: UnnamedJournal<D>,
+) -> D
+    requires name { unnamed.name ≡ J.name }
+{
+    let (journal, mut seat) = unnamed.named::<J>();
+    let (Some(one), Some(two)) = (journal.split_seat(&mut seat), journal.split_seat(&mut seat))
+    else {
+        panic!(rt; "there is no further seat")
+    };
+    let Some((mut first, second)) = write_at_once(rt, &journal, one, two) else {
+        panic!(rt; "a handle is refused")
+    };
+    let committed = commit(rt, &journal, &mut first);
+    let stand = both_stand(rt, &journal, first, second);
+    let Ok(parts) = journal.close() else {
+        panic!(rt; "the close is refused")
+    };
+    expect(rt, &(committed, stand, parts.committed), &(true, true, 1));
+    parts.device
+}
+
+fn expected_home(rt: &HostRuntime) -> io::Result<Vec<u8>> {
+    let mut home = vec![in rt.alloc(); 0; 1024 * HOME_BLOCKS]?;
+    home[..1024 * 20].fill(7);
+    home[1024 * 100..1024 * 120].fill(7);
+    Ok(home)
+}
+
+/// Whether the home file has what the threads wrote. Removes the folder.
+fn is_home(rt: &HostRuntime) -> io::Result<bool> {
+    let home = fs::read(rt, HOME)?;
+    let expected = expected_home(rt)?;
+    fs::remove_dir_all(rt, FOLDER)?;
+    Ok(home.as_slice() == expected.as_slice())
+}
+
+#[test]
+fn two_threads_share_a_journal_over_files(rt: HostRuntime) -> Result<(), Fail> {
+    let mut device = two_files(&rt)?;
+    recovery::format(&mut device, 256, &[7; 16], false)?;
+    let unnamed = unnamed_on(rt.alloc(), device)?;
+    drop(written::<Brand, _, _>(&rt, unnamed));
+    expect(&rt, &is_home(&rt)?, &true);
+    Ok(())
+}
