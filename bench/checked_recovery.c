@@ -35,7 +35,7 @@ static void fail(const char *what)
     exit(1);
 }
 
-/* The block at this place, until another is asked for. Where it follows the last ones, those behind it are read as well. */
+/* The block at this place, until another is asked for. Where it follows the last ones, those after it are read as well. */
 static unsigned char *block_at(struct log *log, uint32_t place)
 {
     if (place < log->from || place >= log->to) {
@@ -61,8 +61,8 @@ static uint32_t greatest_sequence(struct log *log)
     return greatest;
 }
 
-/* Goes over the copies behind a descriptor: notes where each stands, or writes those home that are the newest of their block. The
- * answer is the place behind them. */
+/* Goes over the copies after a descriptor: notes where each stands, or writes those home that are the newest of their block. The
+ * answer is the place after them. */
 static uint32_t copies(struct log *log, int home, const unsigned char *tags, uint32_t *newest, uint32_t place)
 {
     size_t at = 12;
@@ -85,7 +85,7 @@ static uint32_t copies(struct log *log, int home, const unsigned char *tags, uin
     }
 }
 
-/* Goes over the complete transactions, to note copies, or to write them to this file. The answer is the number behind them. */
+/* Goes over the complete transactions, to note copies, or to write them to this file. The answer is the number after them. */
 static uint32_t pass(struct log *log, int home, uint32_t *newest, uint32_t sequence, uint32_t place)
 {
     unsigned char tags[4096];

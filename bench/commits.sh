@@ -1,7 +1,7 @@
 #!/usr/bin/env bash
 # Durable transactions a second of `jbench bench` beside a plain log in C with two syncs a commit, LMDB, and SQLite in WAL mode with
 # synchronous=FULL: transactions of 3 blocks of 1024 bytes, by one thread or by so many at once. Each store is run in turn, so many times,
-# on new files, and the median of each is told, behind the machine, the file system and the versions.
+# on new files, and the median of each is told, after the machine, the file system and the versions.
 #
 # usage: bench/commits.sh [--program PATH] [--threads N] [--runs R] [--seconds S] [--copies K] [--length M] [--home H] [FOLDER]
 #

@@ -3,7 +3,7 @@
 
 usage: failed_sync.py [--program PATH]
 
-Behind a sync that failed the system may go on to show what its disk lacks, and answer Ok to the next sync. Here a log and its home area
+After a sync that failed the system may go on to show what its disk lacks, and answer Ok to the next sync. Here a log and its home area
 lie on two ext4 file systems, each on a loop device over a file in a memory file system. The page behind one block of such a file is
 taken away and the memory file system filled, so that a write of this block fails, as on a disk that refuses a sector:
 
@@ -28,7 +28,7 @@ from pathlib import Path
 TOP = Path(__file__).resolve().parent.parent
 BLOCK = 4096
 BLOCKS = range(20, 36, 2)  # the blocks of the transaction, apart, since a loop device hides that a longer write fails in its midst
-COMMIT_PLACE = 10  # behind the superblock: a descriptor, 8 copies, the commit block
+COMMIT_PLACE = 10  # after the superblock: a descriptor, 8 copies, the commit block
 OLD, NEW = b"\x00" * BLOCK, b"\x77" * BLOCK
 
 

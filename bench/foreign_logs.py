@@ -10,7 +10,7 @@ it. Before both recoveries these blocks are filled, so that one that is not brou
 
 debugfs: `jo`, `jw` and `jc` write each transaction, in a session of its own. (Within one session debugfs loses the commit block of
 a transaction that has blocks and revokes, where another one follows.) Now and then e2fsck recovers in between, so that blocks of
-older transactions stand behind those that count. The first transaction is a revoke of a block that no other names, since a log
+older transactions stand after those that count. The first transaction is a revoke of a block that no other names, since a log
 without revokes lacks the one feature that is needed.
 
 The kernel: files are written and removed on an ext3 file system on a loop device, and the image is read while it is mounted, behind

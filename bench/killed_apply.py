@@ -9,7 +9,7 @@ runs.py. Each script is applied to new files once to its end and then several ti
 lines has come, or a moment later; half of all applies are made with --stay, and half with --make-room. Each time:
 
 - what was printed is the front of what the model prints of the whole apply, and standard error says of an open wait what the model says;
-- both files hold, byte for byte, what the model's device holds behind one of its writes (a kill takes no write back of those
+- both files hold, byte for byte, what the model's device holds after one of its writes (a kill takes no write back of those
   that were handed to a file, and they are handed over in their order, so all of them are there up to some one); where it was not
   killed, behind the last one;
 - `recover` ends as the model's opening of these files, and leaves the model's bytes;
@@ -56,7 +56,7 @@ class Recorded(Device):
 
 
 class Apply(Run):
-    """An apply of a script to a log that was just formatted, with all its lines, and how much was shown committed behind each."""
+    """An apply of a script to a log that was just formatted, with all its lines, and how much was shown committed after each."""
 
     def __init__(self, text, stay, make_room=False):
         super().__init__(text)  # reads the script, and does it once on a device that is thrown away
@@ -108,7 +108,7 @@ class Apply(Run):
         return f"jbench: a wait for transaction {self.open_wait} came to open, and {why}\n" if self.is_open else ""
 
     def blocks(self, writes):
-        """All blocks of both areas behind so many writes."""
+        """All blocks of both areas after so many writes."""
         held = {area: dict(blocks) for area, blocks in self.first.items()}
         for area, place, block in self.device.made[:writes]:
             held[area][place] = block
@@ -116,7 +116,7 @@ class Apply(Run):
         return {area: [held[area].get(place, zeros) for place in range(count)] for area, count in self.device.counts.items()}
 
     def writes_of(self, found):
-        """Behind how many writes the device holds these bytes, by area; the last such number, or None."""
+        """After how many writes the device holds these bytes, by area; the last such number, or None."""
         size, held, last = self.device.size, self.blocks(0), None
         differing = {area: {i for i, block in enumerate(held[area]) if found[area][i * size : (i + 1) * size] != block} for area in held}
         for writes in range(len(self.device.made) + 1):
@@ -236,9 +236,9 @@ class Killer:
         """Compares what an apply left with the model, and then what `recover` makes of it."""
         writes = apply.writes_of(self.held())
         if writes is None:
-            raise Difference(f"{given}\nthe files hold what the model's device holds behind none of its writes")
+            raise Difference(f"{given}\nthe files hold what the model's device holds after none of its writes")
         if has_ended and writes != len(apply.device.made):
-            raise Difference(f"{given}\nthe files hold what the model's device holds behind {writes} of its {len(apply.device.made)} writes")
+            raise Difference(f"{given}\nthe files hold what the model's device holds after {writes} of its {len(apply.device.made)} writes")
         left = Left(apply, writes, shown)
         if self.recover and left.line.startswith("recovered"):
             self.compare_others(left, f"{given}\nwrites: {writes}")

@@ -3,7 +3,7 @@
 
 usage: make_full_log.py LOG HOME BLOCKS SIZE
 
-LOG gets BLOCKS blocks of SIZE bytes: a superblock that says that the log begins at block 1 with transaction 1, and behind it
+LOG gets BLOCKS blocks of SIZE bytes: a superblock that says that the log begins at block 1 with transaction 1, and after it
 transactions of 200 copies each, up to the end of the ring. HOME gets twice as many blocks. Which block a copy is of comes from a
 generator with a fixed seed: nine in ten copies are of a block that has none yet, the others of one that has.
 

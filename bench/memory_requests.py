@@ -1,16 +1,16 @@
 #!/usr/bin/env -S python3 -B
-"""How many requests for memory each call of a journal over files makes, and which of them come behind its first write to the device.
+"""How many requests for memory each call of a journal over files makes, and which of them come after its first write to the device.
 
 usage: memory_requests.py [--program PATH]
 
 `jbench apply` does scripts over two files, under a wrapper of the C library's malloc, realloc, pwrite and fdatasync
 (refused_memory.c). What it writes down between two lines that the program prints is what one operation came to. What the program takes
-itself is not counted: the block that it makes of the bytes of a `write`, a `read` or a `direct`, its table of handles, and behind the
+itself is not counted: the block that it makes of the bytes of a `write`, a `read` or a `direct`, its table of handles, and after the
 close the block from which it tells the next number. A request in a call that takes none for the journal is the device's, for a buffer
 that it can do without: each of these is refused, in an apply of its own, and has to change no line and no byte of either file.
 
 It prints a table: the call, its requests the first time, the least and the most that any later one made, and how many of all these come
-behind the first write of their call; and then what the seals of one copy and of six make, each in a journal that was just made, what
+after the first write of their call; and then what the seals of one copy and of six make, each in a journal that was just made, what
 the first step of each of a journal's first three transactions makes, what the steps of a transaction of fifty entries make beside their
 bytes, what a write of a block makes that its transaction has already, what closes make that first have to finish a commit, or to make room
 too, and what came of the device's requests. The program is `./jbench`,
@@ -26,7 +26,7 @@ from runs import program_of
 
 LENGTH = 257  # blocks of the log
 FIRST = ["turn"]  # the first operation, which does nothing: what comes before its line is the journal's making
-# Of these lines the program has requests of its own: how many before the journal's, and how many behind them.
+# Of these lines the program has requests of its own: how many before the journal's, and how many after them.
 OWN = {"new": (1, 0), "write": (1, 0), "read": (1, 0), "direct": (1, 0), "close": (0, 2)}
 NONE_TAKEN = ("extend", "stop", "request", "wait", "direct", "sync", "ckturn", "turn step", "turn committed", "turn idle")
 
@@ -57,8 +57,8 @@ EACH_CALL = [
 
 # Closes that first have to finish a commit; of the second one the ring has no room for the running transaction before a round.
 CLOSES = {
-    "behind a commit": [FIRST, *transaction(1, 3), *[["turn"]] * 4, *transaction(2, 3)],
-    "behind a commit and a round": [
+    "after a commit": [FIRST, *transaction(1, 3), *[["turn"]] * 4, *transaction(2, 3)],
+    "after a commit and a round": [
         FIRST, *(operation for i in range(3) for operation in [*transaction(i, 50), *[["turn"]] * 58]),
         *transaction(4, 50), *[["turn"]] * 9, *transaction(5, 50)],
 }
@@ -86,7 +86,7 @@ class Applied:
                 self.parts[-1].append((kind, int(size or 0)))
 
     def by_call(self):
-        """Of each line: the word of its call, the numbers and the sizes of its requests, and how many come behind its first write."""
+        """Of each line: the word of its call, the numbers and the sizes of its requests, and how many come after its first write."""
         lines = self.done[1].splitlines()
         assert self.done[0] == 0 and len(lines) == len(self.operations) + 2 and len(self.parts) >= len(lines), self.done
         words = ["opening", "new", *(name_of(operation, line) for operation, line in zip(self.operations[1:], lines[2:])), "close"]
@@ -118,7 +118,7 @@ def table(applied):
     calls = {}
     for word, _, sizes, behind in applied.by_call():
         calls.setdefault(word, []).append((len(sizes), behind))
-    print("| Call | Requests the first time | later | behind its first write |")
+    print("| Call | Requests the first time | later | after its first write |")
     print("|---|---|---|---|")
     for word, made in calls.items():
         later = [count for count, _ in made[1:]]

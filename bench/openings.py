@@ -93,7 +93,7 @@ class Refused(Exception):
 
 
 def scan(log, home_blocks):
-    """The number behind the complete transactions, their copies as (transaction, home block, bytes), and their revokes."""
+    """The number after the complete transactions, their copies as (transaction, home block, bytes), and their revokes."""
     maxlen, first, start = (word(log[0], at) for at in (0x10, 0x14, 0x1C))
     ring = maxlen - first
     place = lambda taken: first + (start - first + taken) % ring
@@ -130,7 +130,7 @@ def scan(log, home_blocks):
 
 
 def opening(log, home_blocks):
-    """What an opening of these blocks answers, the blocks that it writes home, how many writes it makes, and block 0 behind it."""
+    """What an opening of these blocks answers, the blocks that it writes home, how many writes it makes, and block 0 after it."""
     if not log:
         return "refusal 16 BadLength", {}, 0, None
     refusal = refused_superblock(log[0], len(log))
@@ -163,7 +163,7 @@ def opening(log, home_blocks):
 
 
 def upgrade(log):
-    """What an upgrade of these blocks answers, and block 0 behind it, where it is written."""
+    """What an upgrade of these blocks answers, and block 0 after it, where it is written."""
     if not log:
         return "refusal 16 BadLength", None
     refusal = refused_superblock(log[0], len(log))
@@ -326,7 +326,7 @@ def spelled_word(block, text, size, area, wide):
 
 
 def tag_of(number, flags, wide):
-    """A tag without the UUID behind it. In a wide log the higher half of the number stands behind the flags."""
+    """A tag without the UUID after it. In a wide log the higher half of the number stands after the flags."""
     return words_of([number % 2**32, flags, number >> 32]) if wide else words_of([number, flags])
 
 
@@ -419,7 +419,7 @@ class RandomLog:
         return self.first + (self.start - self.first + position) % ring
 
     def draw_old_block(self, place):
-        """What stands in the area before the log is written. Behind the ring, and before it, no number is looked at."""
+        """What stands in the area before the log is written. After the ring, and before it, no number is looked at."""
         case = self.draws.below(6)
         if case == 0:
             return self.draw_copy()
@@ -515,7 +515,7 @@ class RandomLog:
 
 
 def tell_random_logs(given):
-    """Given: `seed=N images=N`, and behind it `wide` for logs whose block numbers have 64 bits."""
+    """Given: `seed=N images=N`, and after it `wide` for logs whose block numbers have 64 bits."""
     words = given.split()
     values = dict(pair.split("=") for pair in words if pair != "wide")
     draws, tally = Draws(number(values["seed"])), Tally()

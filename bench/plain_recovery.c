@@ -28,7 +28,7 @@ static void read_block(int log, unsigned char *block, size_t size, uint32_t plac
         fail("read");
 }
 
-/* Writes the copies behind a descriptor home; the answer is the place behind them. */
+/* Writes the copies after a descriptor home; the answer is the place after them. */
 static uint32_t copies(int log, int home, const unsigned char *tags, unsigned char *copy, size_t size, uint32_t place)
 {
     size_t at = 12;

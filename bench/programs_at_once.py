@@ -10,7 +10,7 @@ Each time a log is made, and in a few rounds two or three programs are started t
 - a program ends with 0, or by its kill, or it is refused with `jbench: file PATH` and exit status 1 and prints nothing more;
 - they are not all refused.
 
-Behind the last round `recover` ends well, and each block whose `wait` line was printed by any of them has its bytes; of each transaction,
+After the last round `recover` ends well, and each block whose `wait` line was printed by any of them has its bytes; of each transaction,
 of two blocks, both are there or neither. At the first difference all of it is printed, and nothing more is run (exit status 1). The program
 is `./jbench`, which is built first, or the one at PATH. Run it by hand.
 """

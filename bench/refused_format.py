@@ -6,7 +6,7 @@ usage: refused_format.py [--program PATH] [COUNT] [SEED]     so many races (defa
 In each race a `format` over `log` is refused: its home area is the log itself, has no folder, is a folder, or is locked by this script;
 or with --keep-home it is missing or too short. Beside it another program makes a log at the same name, and applies two blocks with
 --stay. Either may begin, and half of the races delay calls of the refused one by strace, where that is there: its openings, its locks and
-whatever takes a file away. In one race of four a log that was made before is renamed to that name meanwhile. Behind it:
+whatever takes a file away. In one race of four a log that was made before is renamed to that name meanwhile. After it:
 
 - the refused program ends with 1, prints nothing, and names its home area or the log;
 - `log` is there, and where it was empty or a log before the other file was renamed or made, it is what came last;

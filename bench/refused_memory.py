@@ -6,14 +6,14 @@ usage: refused_memory.py [--program PATH] [--tests PATH].. [COUNT [SEED]]
 
 A wrapper of the C library's malloc and realloc (refused_memory.c) refuses one request of the program, for each of its requests in turn; a
 new thread is a request too.
-The scripts are the rows below, in which each operation that can be refused for want of memory is made again at once, and behind it
+The scripts are the rows below, in which each operation that can be refused for want of memory is made again at once, and after it
 starts try how many credits are held: one of just those that are left, and one of one more. Of the program that is refused request K
 
-- `run` prints the lines of a separate model (run_model.py) in which one operation is refused `1 Memory`, the one behind it answers what
+- `run` prints the lines of a separate model (run_model.py) in which one operation is refused `1 Memory`, the one after it answers what
   that one would have, and every other line is as in the row, with the verdict ok; or those of a run of which one device call fails, for
   the device of a run is in memory too; or the program itself is refused, its device or the opening of what is left, and then it prints
   a front of the row's lines and `jbench: refusal 1 Memory` or `2 Device`;
-- `apply` does what killed_apply.py asks of one that is killed: the lines of the model up to the refusal, files as they are behind one of
+- `apply` does what killed_apply.py asks of one that is killed: the lines of the model up to the refusal, files as they are after one of
   the model's writes, and `recover` brings home all that was committed and nothing else;
 - `recover`, which opens a log, `format`, `upgrade`, `dump`, `show` and `check` come to what they come to with ample memory, or are
   refused; a `recover` that is refused has left both files as they were; and the same command made again, with ample memory, does all.
@@ -29,7 +29,7 @@ The seal of a transaction of six copies asks for memory as often as that of one:
 
 It writes a line for each of these, with how many requests there were and how many answers were false, and names each false answer. The
 last line is `N passed, M failed`, which counts these lines; where one failed the status is 1. The program is `./jbench`, which is built
-first, or the one at PATH. `./test` calls it behind `rt ci`, with what that built. It needs glibc of Linux on x86-64, and the kit's C
+first, or the one at PATH. `./test` calls it after `rt ci`, with what that built. It needs glibc of Linux on x86-64, and the kit's C
 compiler, or the system's where no kit is there; it takes less than a processor minute, and some more of waiting where others work too.
 """
 import json
@@ -48,7 +48,7 @@ from refusals import refusal_lines
 from runs import Difference, RandomScript, count_and_seed, first_difference, program_of
 
 HERE = Path(__file__).resolve().parent
-NEVER = 1_000_000  # a device call that no script comes to: behind a failed call the script goes on
+NEVER = 1_000_000  # a device call that no script comes to: after a failed call the script goes on
 MEMORY, DEVICE = refusal_lines("1 Memory"), refusal_lines("2 Device")
 CLIENTS = "service::refused::a_client_without_memory_ends_alone"  # the test of clients in threads
 CLOSE = "closes::a_close_takes_its_memory_before_its_first_call"  # the test of a close that has to finish a commit
@@ -343,7 +343,7 @@ def judge_close(refuser, tests):
         "refused Memory\n": "the close is refused",
         "refused Device\n": "a device call fails",
     }
-    judge_test(Refuser(tests, refuser.folder, refuser.done), "close behind a commit", CLOSE, cases, "the close is refused", 1)
+    judge_test(Refuser(tests, refuser.folder, refuser.done), "close after a commit", CLOSE, cases, "the close is refused", 1)
 
 
 def judge_test(refuser, name, test, cases, wanted, times):

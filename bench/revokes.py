@@ -8,7 +8,7 @@ processor:
 
 - one transaction of k revokes, beside the same script with none of them: microseconds a revoke;
 - transactions of 100 revokes each, so many in all, with a commit and a checkpoint each: microseconds a revoke;
-- direct writes behind so many committed transactions, each of which revokes a block, beside the same script with no direct write:
+- direct writes after so many committed transactions, each of which revokes a block, beside the same script with no direct write:
   microseconds a direct write.
 
 Where the last column of a table is about the same on all of its lines, the time is in proportion. A run is the whole life of its log:

@@ -175,10 +175,10 @@ class Journal:
         self.direct = {}  # by home block: its direct writes, each as how many transactions were sealed then, and its bytes
         self.synced = {}  # by home block: which of these is the last that was synced
         self.mark = self.released = 1
-        self.ends = {1: 0}  # the position behind each transaction's blocks, over all laps
+        self.ends = {1: 0}  # the position after each transaction's blocks, over all laps
         self.pending = {}  # by home block: transaction and bytes of its newest committed copy that is not released
         self.is_home = set()  # which of these are written home
-        self.bound, self.round = None, []  # the last transaction of the round that is under way, and the calls behind its copies
+        self.bound, self.round = None, []  # the last transaction of the round that is under way, and the calls after its copies
 
     def place(self, position):
         return 1 + position % self.ring
@@ -325,10 +325,10 @@ NEED_OPEN = ("write", "revoke", "read", "extend", "restart", "stop")
 class Run:
     """A run of a script up to its stop: its lines, and what has to be known to judge it.
 
-    Where a call is to fail the script goes on behind it; else it ends with the first operation that the device refuses.
+    Where a call is to fail the script goes on after it; else it ends with the first operation that the device refuses.
     """
 
-    ALWAYS = ("start", "extend", "restart", "stop", "status", "wait")  # what answers by itself behind a failed call
+    ALWAYS = ("start", "extend", "restart", "stop", "status", "wait")  # what answers by itself after a failed call
 
     def __init__(self, text, stop=None, fail=None):
         self.script = {**DEFAULTS, **json.loads(text)}
@@ -441,7 +441,7 @@ class Run:
 
 
 class Outcome:
-    """What comes of a run: all its lines, and its image before the openings and behind them."""
+    """What comes of a run: all its lines, and its image before the openings and after them."""
 
     def __init__(self, run, keep, stop2=None, keep2=()):
         self.run, self.image = run, run.device.image(keep)

@@ -22,7 +22,7 @@ def tell_run(given):
 
 
 class Endings:
-    """In which ways runs end, in the order in which these come, and for each the stops behind which runs end so, as series.
+    """In which ways runs end, in the order in which these come, and for each the stops after which runs end so, as series.
 
     Of runs that end elsewhere `places` is the word for where they do.
     """
@@ -48,7 +48,7 @@ class Endings:
 
 
 def given_of(given):
-    """The three numbers of a line as `stops 1 to 13, any of the last 4 writes kept`, and the script behind it."""
+    """The three numbers of a line as `stops 1 to 13, any of the last 4 writes kept`, and the script after it."""
     line, _, text = given.partition("\n")
     return [int(word) for word in line.replace(",", "").split() if word.isdigit()], text
 
@@ -125,7 +125,7 @@ def tell_failure_sweep(text):
 
 
 def tell_bytes(given):
-    """Given: a script on a line, and lines as `log 3` or `log 3 from 8 for 4`, the last of them perhaps behind a line `opened`."""
+    """Given: a script on a line, and lines as `log 3` or `log 3 from 8 for 4`, the last of them perhaps after a line `opened`."""
     text, _, lines = given.partition("\n")
     left, opened, behind = lines.partition("opened\n")
     run = Run(text)

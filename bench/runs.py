@@ -187,7 +187,7 @@ class RandomScript:
         self.ops.append(["sync"])
 
     def draw_reuse(self):
-        """A block that is written, revoked, written directly and written once more, with turns or a part of a round behind each."""
+        """A block that is written, revoked, written directly and written once more, with turns or a part of a round after each."""
         number = self.draw.choice(self.blocks)
         for revokes, others in (0, self.draw.choice((0, 1, 1))), (1, 0):
             self.draw_transaction(1 + others, [*self.draw.choices(self.blocks, k=others), number], revokes)

@@ -4,7 +4,7 @@
 usage: sweeps.py [--program PATH] [--fail] [TRANSACTIONS ..]
 
 TRANSACTIONS (default: 50 100 200) is how many transactions a script has. Each of them writes three blocks of home and is committed
-by itself; behind every fifth one comes a checkpoint round, so that the ring is used lap after lap. A line has the counts of the
+by itself; after every fifth one comes a checkpoint round, so that the ring is used lap after lap. A line has the counts of the
 sweep, the processor's seconds that it took, how many images it opened in one, and the greatest memory of the program in KiB, beside
 that of `jbench run` of the same script, which opens one image. With --fail each call fails in turn, too. The program is that of
 `./jbench`, which is built first, or the one at PATH. Run it by hand on a quiet machine: times are no test. 200 transactions take some

@@ -8,7 +8,7 @@ four or eight of them. Here it is broken: the files hold what a model of the app
 of the block of this write some sectors as they were and some as they are written. For each of the writes that are drawn of a script:
 
 - `recover` ends well, or is refused with Damage or Ahead and leaves both files as they are; then `recover --before-damage` ends well;
-- each home block is then as it is recovered before that write, or each is as it is recovered behind it: so nothing that was
+- each home block is then as it is recovered before that write, or each is as it is recovered after it: so nothing that was
   acknowledged is lost, and no transaction is there by half. A home block that is torn itself, and whose last entry in the
   transactions found is a revoke, holds what nobody may read, and is left out.
 
@@ -99,7 +99,7 @@ class Tearer:
             self.cases["of a revoked block"] += 1
             found, *wanted = [data[: place * len(block)] + data[(place + 1) * len(block) :] for data in (found, *wanted)]
         if found not in wanted:
-            raise Difference(f"{given}\nwhat is recovered ({told!r}) is neither what was there before the write nor what is there behind it")
+            raise Difference(f"{given}\nwhat is recovered ({told!r}) is neither what was there before the write nor what is there after it")
         self.cases["torn writes"] += 1
         self.cases[f"of the {area} area"] += 1
         self.cases["that add a transaction"] += found == wanted[1] != wanted[0]
