@@ -39,31 +39,46 @@ fn is_end(word: &str) -> bool {
 
 /// Writes the lines of a dump: the superblock's, a list of the blocks', and the last one.
 fn write_dump<W: Write>(text: &str, out: &mut W) -> io::Result<()> {
-    let mut comma = "";
+    let mut is_later = false;
     for line in text.lines() {
         let (word, rest) = sides_of(line);
         if word == "super" {
-            write!(out, "{{\"super\":{{")?;
-            write_members(out, rest)?;
-            write!(out, "}},\"blocks\":[")?;
+            write_super(out, rest)?;
         } else if is_end(word) {
-            write!(out, "],\"{word}\":{{")?;
-            write_members(out, rest)?;
-            writeln!(out, "}}}}")?;
+            write_end(out, word, rest)?;
         } else {
-            write!(out, "{comma}{{\"place\":{word},")?;
-            write_block(out, rest)?;
-            comma = ",";
+            if is_later {
+                write!(out, ",")?;
+            }
+            write_block(out, word, rest)?;
+            is_later = true;
         }
     }
     Ok(())
 }
 
-/// Writes the rest of a block's line after its place, and ends its object.
-fn write_block<W: Write>(out: &mut W, words: &str) -> io::Result<()> {
+/// Writes the superblock's line, and begins the list of the blocks'.
+fn write_super<W: Write>(out: &mut W, words: &str) -> io::Result<()> {
+    write!(out, "{{\"super\":{{")?;
+    write_members(out, words)?;
+    write!(out, "}},\"blocks\":[")
+}
+
+/// Ends the list of the blocks' lines, and writes the last line, which begins with `word`.
+fn write_end<W: Write>(out: &mut W, word: &str, words: &str) -> io::Result<()> {
+    write!(out, "],\"{word}\":{{")?;
+    write_members(out, words)?;
+    writeln!(out, "}}}}")
+}
+
+/// Writes a block's line as an object. Its place is before these words.
+fn write_block<W: Write>(out: &mut W, place: &str, words: &str) -> io::Result<()> {
     let (kind, rest) = sides_of(words);
     let (transaction, rest) = sides_of(rest);
-    write!(out, "\"kind\":\"{kind}\",\"transaction\":{transaction}")?;
+    write!(
+        out,
+        "{{\"place\":{place},\"kind\":\"{kind}\",\"transaction\":{transaction}"
+    )?;
     if let Some(numbers) = rest.strip_prefix("blocks=") {
         write!(out, ",\"blocks\":[{numbers}]")?;
     } else if !rest.is_empty() {
