@@ -70,7 +70,7 @@ pub record IsOperated {D : Type 0} (state : D → DeviceState) (honest : D → T
   pub said : Option (List ℕ)
   pub does : HasApplied state honest opened operations after ending device sealed shown applied before said
   pub stays : Stays (state device) (state left)
-  pub after : SaysAfter state honest ending device left applied end said written
+  pub says : SaysAfter state honest ending device left applied end said written
 
 -- The opening's line was written, all was done after it, and correct reads now mean correct reads at the opening. If the journal was
 -- closed, the last line has the number that the next opening gives the next transaction.

@@ -82,20 +82,34 @@ fn write_operation<W: Write>(out: &mut W, operation: &str) -> io::Result<()> {
     }
 }
 
-/// Writes an operation's result: a refusal or an answer. The answer is a transaction's number, or a word. A turn that names a transaction
-/// has that too.
+/// Writes an operation's result: a refusal or an answer. A turn that names a transaction has that too.
 fn write_answer<W: Write>(out: &mut W, operation: &str, answer: &str) -> io::Result<()> {
     let (word, rest) = sides_of(answer);
     if word == "refused" {
-        let (number, name) = sides_of(rest);
-        return write!(
-            out,
-            ",\"refusal\":{{\"number\":{number},\"name\":\"{name}\"}}"
-        );
+        write_refusal(out, rest)
+    } else if rest.is_empty() {
+        write_word(out, operation, word)
+    } else {
+        write_turn(out, word, rest)
     }
-    if !rest.is_empty() {
-        return write!(out, ",\"answer\":\"{word}\",\"transaction\":{rest}");
-    }
+}
+
+/// Writes a refusal, which is a number and a name.
+fn write_refusal<W: Write>(out: &mut W, refusal: &str) -> io::Result<()> {
+    let (number, name) = sides_of(refusal);
+    write!(
+        out,
+        ",\"refusal\":{{\"number\":{number},\"name\":\"{name}\"}}"
+    )
+}
+
+/// Writes the answer of a turn that names a transaction.
+fn write_turn<W: Write>(out: &mut W, word: &str, transaction: &str) -> io::Result<()> {
+    write!(out, ",\"answer\":\"{word}\",\"transaction\":{transaction}")
+}
+
+/// Writes an answer of one word: a transaction's number as a number, but what a read gives always as a text.
+fn write_word<W: Write>(out: &mut W, operation: &str, word: &str) -> io::Result<()> {
     if !operation.starts_with("read ") && word.parse::<u64>().is_ok() {
         write!(out, ",\"answer\":{word}")
     } else {

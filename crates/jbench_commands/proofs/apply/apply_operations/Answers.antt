@@ -32,7 +32,7 @@ returns-in-Ok-clause-operated g c = record {
   said = _;
   does = rw (c.say_end.ensures.sealed, c.say_end.ensures.acknowledged) c.in-Ok.ensures.outcomes;
   stays = c.say_end.ensures.device.stays;
-  after = c.say_end.ensures.after;
+  says = c.say_end.ensures.after;
 }
 
 -- reads were correct at the opening
