@@ -29,7 +29,7 @@ from runs import TOP, Difference, compare_all
 SCRIPT = TOP / "examples" / "two_blocks.json"
 DELAYED = ("openat:delay_exit", "openat:delay_enter", "flock:delay_enter", "flock:delay_exit", "unlink,unlinkat:delay_enter")
 BLOCKS = {9: b"\x11", 10: b"\x22"}
-HELD = ("another program has it", "it is locked by process ")
+HELD = ("another program has it", " took its lock")
 
 
 def has_strace():

@@ -1,4 +1,4 @@
-//! Which process has a file's lock, by the system's list.
+//! Which process took a file's lock, by the system's list.
 ghost use Rattle.std.specs.Prelude.{◌≤◌};
 
 use crate::regular::Identity;
@@ -60,31 +60,38 @@ impl fmt::Write for Line {
     }
 }
 
-/// Why a file can't be locked: another opening has its lock. Names the process that has it, if the system tells it.
+/// Why a file can't be locked: another opening has its lock. Names the process that took it, if the system tells it and that still runs.
 pub(crate) fn held<R: Files<File = File>>(rt: &R, file: Identity) -> io::Error {
-    match holder_of(rt, file) {
-        Some(process) => held_by(process),
-        None => io::Error::new(ErrorKind::WouldBlock, "another program has it"),
+    match taker_of(rt, file) {
+        Some(process) if is_running(rt, process) => taken_by(process),
+        _ => io::Error::new(ErrorKind::WouldBlock, "another program has it"),
     }
 }
 
-/// Why a file can't be locked: this process has its lock.
-fn held_by(process: u64) -> io::Error {
+/// Why a file can't be locked: this process took its lock.
+fn taken_by(process: u64) -> io::Error {
     let mut line = Line::new();
-    let _ = fmt::Write::write_fmt(&mut line, format_args!("it is locked by process {process}"));
+    let _ = fmt::Write::write_fmt(&mut line, format_args!("process {process} took its lock"));
     io::Error::new(ErrorKind::WouldBlock, line.text())
 }
 
-/// The process that has a file's lock, if the system tells it.
-fn holder_of<R: Files<File = File>>(rt: &R, file: Identity) -> Option<u64> {
+/// Whether a process has not ended. Another one may keep the lock of one that has.
+fn is_running<R: Files<File = File>>(rt: &R, process: u64) -> bool {
+    let mut path = Line::new();
+    let _ = fmt::Write::write_fmt(&mut path, format_args!("/proc/{process}"));
+    fs::metadata(rt, path.text()).is_ok()
+}
+
+/// The process that took a file's lock, if the system tells it.
+fn taker_of<R: Files<File = File>>(rt: &R, file: Identity) -> Option<u64> {
     match fs::open(rt, LOCKS) {
-        Ok(mut locks) => holder_in(&mut locks, file),
+        Ok(mut locks) => taker_in(&mut locks, file),
         Err(_) => None,
     }
 }
 
-/// The process that has a file's lock, by a list of locks.
-fn holder_in(locks: &mut impl Read, file: Identity) -> Option<u64> {
+/// The process that took a file's lock, by a list of locks.
+fn taker_in(locks: &mut impl Read, file: Identity) -> Option<u64> {
     let mut line = Line::new();
     let mut chunk = [0; CHUNK];
     for _ in 0..CHUNKS {
@@ -92,7 +99,7 @@ fn holder_in(locks: &mut impl Read, file: Identity) -> Option<u64> {
             Ok(0) | Err(_) => return None,
             Ok(count) => count,
         };
-        if let Some(process) = holder_on(&mut line, &chunk[..count], file) {
+        if let Some(process) = taker_on(&mut line, &chunk[..count], file) {
             return Some(process);
         }
     }
@@ -100,7 +107,7 @@ fn holder_in(locks: &mut impl Read, file: Identity) -> Option<u64> {
 }
 
 /// The process on the first line that names one for a file's lock. These bytes continue `line`.
-fn holder_on(line: &mut Line, bytes: &[u8], file: Identity) -> Option<u64> {
+fn taker_on(line: &mut Line, bytes: &[u8], file: Identity) -> Option<u64> {
     for byte in bytes {
         if *byte != b'\n' {
             line.push(*byte);
@@ -114,7 +121,7 @@ fn holder_on(line: &mut Line, bytes: &[u8], file: Identity) -> Option<u64> {
     None
 }
 
-/// The process that has a file's lock, if this line of the list names it: `1: FLOCK ADVISORY WRITE 4711 fe:00:123456 0 EOF`. The line of a
+/// The process that took a file's lock, if this line of the list names it: `1: FLOCK ADVISORY WRITE 4711 fe:00:123456 0 EOF`. The line of a
 /// process that waits has `->` before the kind.
 fn process_in(line: &str, file: Identity) -> Option<u64> {
     let mut words = line.split_whitespace();

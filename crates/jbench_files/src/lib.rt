@@ -2,7 +2,7 @@
 //!
 //! `regular` opens and identifies regular files, `locked` locks a file, and `pairs` opens a log's two files. `ready` prepares a log for a
 //! device, `room` reserves disk space, and `devices` makes devices. No byte of a log's files is read or written before the lock; `waiting`
-//! waits for locks, and `holder` names the process that has one. `text` reads a script, which is not locked.
+//! waits for locks, and `holder` names the process that took one. `text` reads a script, which is not locked.
 #![tactic(auto)]
 
 mod devices;

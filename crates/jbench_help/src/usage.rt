@@ -172,10 +172,10 @@ pub(crate) const SWEEP: Usage = Usage {
 The script is one of run: jbench run --help says what that is. It is stopped at each of its writes, and of each stop each choice
 of the last four writes up to it is kept: that makes an image, which is opened and judged. The opening of each image is stopped at
 each of its own writes in the same way, and what that left is opened once more and judged by what the image had. It prints
-'sweep writes=W images=I again=A false=F': W writes of the run, I images, A openings behind a stopped one, and F openings of both
+'sweep writes=W images=I again=A false=F': W writes of the run, I images, A openings after a stopped one, and F openings of both
 kinds that are refused or whose verdict is false. Each of these is named on standard error, with the options that show it.
 
-With --fail the script is also run once for each of its C device calls (reads, writes and flushes behind the first opening), which
+With --fail the script is also run once for each of its C device calls (reads, writes and flushes after the first opening), which
 fails and does nothing: the script goes on, and the device stops at the end. Each choice of that run's last four writes is kept,
 opened and judged. A second line is 'fail calls=C false=F'.
 
@@ -249,7 +249,7 @@ handle at a time:
   [\"write\", b, hex]  home block b becomes these bytes, at most a block, and zeros behind them
   [\"revoke\", b]      home block b is revoked: no copy of it so far is to come back
   [\"stop\"]           the handle ends; each that is started has to
-  [\"wait\"]           behind a stop: the client goes on once that handle's transaction is committed
+  [\"wait\"]           after a stop: the client goes on once that handle's transaction is committed
 
 Exit status: 0 done, all verdicts ok; 1 refused: the words, the file, the script, or a client; 2 a verdict is false.
 
@@ -345,12 +345,12 @@ pub(crate) const DUMP: Usage = Usage {
     about: "Prints the log in a file: its superblock, and each block of its complete transactions",
     after_help: "\
 The bytes of a block are what stands at 0x0c of LOG where that is 1024, 2048 or 4096, else 1024. Nothing is printed where the
-log is refused. LOG is not written.
+log is refused, but with --damaged or --copy. LOG is not written.
 
 With --damaged a log that is refused with 22 Damage is printed all the same: its complete transactions before the damaged block. The
 refusal follows on standard error, and the exit status is 1. With --copy PLACE the bytes of the copy in block PLACE of LOG are printed in
-place of the log, in hex, 32 on a line, as an opening would write them home. That block has to be one of a complete transaction: the dump
-has a line 'PLACE copy N block=B' for it.
+place of the log, in hex, 32 on a line, as an opening would write them home. That block has to be one of a complete transaction, which
+may stand before a damaged block: the dump has a line 'PLACE copy N block=B' for it.
 
 With --json it prints one object in the place of lines: \"super\", \"blocks\", and \"end\" or \"empty\" have the words of these lines with
 their numbers; \"blocks\" is a list of objects with \"place\", \"kind\", \"transaction\" and the other words of their line.
@@ -437,9 +437,10 @@ it; of a log whose superblock is taken also how many blocks of the ring are used
 transaction that stand there. The bytes of a block are what stands at 0x0c of LOG where that is 1024, 2048 or 4096, else 1024. LOG is not written.
 
 With --json it prints one object in the place of lines: \"log\" has \"blocks\" and \"blocksize\"; \"superblock\" the fields by their names,
-and behind one of features a list of their names; \"failed\" is a list of objects with \"field\", \"refusal\" and \"wanted\";
-\"refusal\" is that of an opening, or null, and \"advice\" a list of lines on it; \"ring\" has the words of its line, or is null. A refusal
-has \"number\" and \"name\".
+and \"s_feature_compat_names\" and so on, lists of the names that are known; \"failed\" is a list of objects with \"field\",
+\"refusal\" and \"wanted\"; \"refusal\" is what the superblock alone comes to, or null: an opening may still refuse the log for its ring;
+\"advice\" is a list of lines on it; \"ring\" has the words of its line, and \"damaged\" the block of the line below it, or it is null.
+A refusal has \"number\" and \"name\".
 
 Exit status: 0 done, whatever the superblock is; 1 refused: the words, the file, or a log of not one block.
 
@@ -468,11 +469,11 @@ The bytes of a block are what stands at 0x0c of LOG where that is 1024, 2048 or 
 copy is written that no revoke covers; a clean log is opened without a write. Before it is read, what is relied on in LOG is
 written once more just as it is, and synced. Where the log is refused nothing else is written, but for want of memory or a failing
 file: then call it again. It prints 'clean next=N', or
-'recovered end=E next=N transactions=C': N is the number of the next transaction, E the number behind the last complete
+'recovered end=E next=N transactions=C': N is the number of the next transaction, E the number after the last complete
 one, C how many complete ones there were. N is none where the recovery used the last number up: the log is clean then, and a new one
 is to be made beside the same home, by format with --keep-home.
 
-Behind 'refusal 2 Device', of this command or another one, see to the disk first: the system may show what its disk lacks. Then
+After 'refusal 2 Device', of this command or another one, see to the disk first: the system may show what its disk lacks. Then
 recover, with no other program on the files; where in doubt, unmount their file system and mount it again before.
 
 With --before-damage a log that is refused with 22 Damage or 21 Ahead is opened in spite of that. Damage: what is brought home are
@@ -487,8 +488,9 @@ it would find: 'clean next=N', or 'would recover end=E next=N transactions=C blo
 write; and the second line of --before-damage.
 
 With --json it prints one object in the place of lines: \"outcome\", which is clean, recovered or would recover, and the other words of
-that line with their numbers, of which \"next\" is null for none. Of the second line it has \"first\" and \"last\", the numbers
-A and B, and \"stopped_by\", an object with \"number\", \"name\" and \"place\"; with --dry-run also \"advice\", a list of lines on that.
+that line with their numbers, of which \"next\" is null for none. Of the second line, where there is one, it has \"first\" and \"last\",
+the numbers A and B, both absent for 'no transactions', and \"stopped_by\", an object with \"number\", \"name\" and \"place\"; with --dry-run
+also \"advice\", a list of lines on that.
 
 Exit status: 0 done; 1 refused: the words, a file, or the log.
 
@@ -540,11 +542,11 @@ pub(crate) const UPGRADE: Usage = Usage {
     about: "Gives the empty log in a file block numbers of 64 bits: format --wide makes such a log from the start",
     after_help: "\
 Of LOG four bytes of the superblock change, and nothing else; the home area is not needed. It prints 'upgraded sequence=S', the number
-of the log's superblock: the next transaction has the one behind it, as before. A log that is not empty is refused with 24 NotEmpty:
+of the log's superblock: the next transaction has the one after it, as before. A log that is not empty is refused with 24 NotEmpty:
 recover it first. One that has such numbers is refused with 23 AlreadyWide. Where power goes away meanwhile, the log is as before or
 upgraded. What an upgraded log then holds is read by this program alone: nothing is claimed of others.
 
-Before it is read, the superblock is written once more just as it is, and synced. Where the log is refused nothing else is written. Behind
+Before it is read, the superblock is written once more just as it is, and synced. Where the log is refused nothing else is written. After
 'refusal 2 Device' see to the disk first, and then call it again.
 
 Exit status: 0 done; 1 refused: the words, the file, or the log.
@@ -562,25 +564,25 @@ pub(crate) const APPLY: Usage = Usage {
     name: "apply",
     about: "Opens the log in a file, and does the operations of a script over it and its home area",
     after_help: "\
-The log is opened as by recover, and the line of that is printed; then the operations of the script are done, with the lines of
-run; then the journal is closed: the log is clean, home has all that was committed, and 'closed next=N' is printed, where N is
+The log is opened as by recover, and the line of that is printed, with the number that this opening uses also where recover would say
+none; then the operations of the script are done, with the lines of run; then the journal is closed: the log is clean, home has all that was committed, and 'closed next=N' is printed, where N is
 the number of the next transaction. With --stay it is not closed: what was committed stays in the log for the next opening. Handles
 that are open at the end are stopped.
 
 The script is one of run: jbench run --help says what that is. Its keys that speak of the device have to agree with the files, where
 they stand. What one handle writes is there whole or not at all, whenever the power goes away; what a 'wait' or a 'status' line shows
-committed is there. The first operation that is refused ends the work behind its line, and so does a refusal to close: the journal is
+committed is there. The first operation that is refused ends the work after its line, and so does a refusal to close: the journal is
 not closed, what was committed stands in the log, and of the running transaction nothing is there. With --keep-going only one that
 is refused because a file failed ends it; any other is printed with its refusal, and the work goes on.
 
 A commit for which the log has no room is refused, unless --make-room is given: then what is committed goes home first, as by
 'check', and the operation is done after that. Its line says what it came to then, and there is no other for the round.
 
-With --json it prints an object on a line in the place of each line, at once: the first and the last one have \"outcome\", which is
-clean, recovered or closed, and the other words with their numbers, of which \"next\" is null for none. That of an operation has
-\"operation\", its name, the numbers that stand behind it as \"handle\", \"credits\" and \"block\", and either \"answer\", a
-transaction's number, a word, or of read the bytes in hex, or \"refusal\", an object with \"number\" and \"name\". A turn that did
-something to a transaction has that as \"transaction\", too.
+With --json it prints an object on a line in the place of each line, at once: the first has \"outcome\", and so has the last where the
+journal is closed; it is clean, recovered or closed, with the other words and their numbers, of which \"next\" is null for none. That of
+an operation has \"operation\", its name, the numbers after it as \"handle\", \"credits\" and \"block\", and either \"answer\", a
+transaction's number, a word, or of read the block's first 8 bytes in hex, or \"refusal\", an object with \"number\" and \"name\". A turn
+that sealed, committed or released a transaction has that as \"transaction\", too.
 
 Exit status: 0 done; 1 refused: the words, a file, the script, the log, or the end of the work.
 
@@ -616,7 +618,7 @@ Example: blocks 9 and 10 of the home area change together:
             name: "keep-going",
             value: "",
             is_option: true,
-            help: "Go on behind an operation that is refused, unless a file failed",
+            help: "Go on after an operation that is refused, unless a file failed",
         },
         Word {
             name: "make-room",

@@ -76,7 +76,9 @@ pub(crate) fn write_features(
             others &= !feature.bit;
         }
     }
-    if others != 0 {
+    if others == bits && bits != 0 {
+        write!(out, " unknown")?;
+    } else if others != 0 {
         write!(out, " and others, {others:#x}")?;
     }
     writeln!(out)

@@ -91,7 +91,7 @@ fn dump_copy<D: Device, W: Write + Drop, E: Write + Drop>(
         Ok(None) => {
             writeln!(
                 err,
-                "jbench: file {path}\n  no complete transaction has a copy in block {place}: jbench dump LOG says where the copies are"
+                "jbench: file {path}\n  no complete transaction has a copy in block {place}: jbench dump LOG --damaged says where the copies are"
             )?;
             Ok(Status::Refused)
         }

@@ -169,7 +169,7 @@ fn reason_of(rt: &HostRuntime, file: &File) -> Result<String, Fail> {
     let locks = fs::read(rt, "/proc/locks").unwrap_or(Vec::new(rt.alloc()));
     for lock in from_utf8(&locks)?.lines() {
         if lock.ends_with(end.as_str()) {
-            return Ok(format!(in rt.alloc(); "it is locked by process {process}")?);
+            return Ok(format!(in rt.alloc(); "process {process} took its lock")?);
         }
     }
     Ok(format!(in rt.alloc(); "{HELD}")?)
