@@ -367,7 +367,7 @@ JUDGES = {"library_tests_tests": judge_close, "thread_tests_tests": judge_client
 
 
 def tests_of(words):
-    """The program behind each --tests, with what judges it; and the words behind these."""
+    """The program after each --tests, with what judges it; and the words after these."""
     tests = {}
     while words[:1] == ["--tests"]:
         path, words = Path(words[1]).resolve(), words[2:]
