@@ -5,8 +5,8 @@ ghost use Rattle.block_device.specs.State.{one_more_call, one_more_fault};
 use crate::{Device, DeviceFault};
 use journal_model::Area;
 
-/// A device of which one call answers a fault and does nothing; all others go to the inner device. `blocks` and
-/// `block_size` are no calls.
+/// A device whose one chosen call answers a fault and does nothing. All others go to the inner device. `blocks` and `block_size` are no
+/// calls.
 #[derive(Drop)]
 pub struct FailOnce<D> {
     device: D,

@@ -1,4 +1,4 @@
-//! Reads byte ranges.
+//! Reads byte ranges, block by block, with the newest bytes.
 ghost use Rattle.std.specs.Prelude.{◌≡◌, ◌≤◌, ◌<◌, ◌+◌, ◌-◌, ◌/◌, ◌%◌, ◌^◌, length, IfOk, OnOk};
 ghost use Rattle.byte_volume.specs.Reading.{AddsPart, AddsRange, ReadsBlock};
 

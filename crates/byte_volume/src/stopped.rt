@@ -32,7 +32,7 @@ impl Stopped {
         Stopped { upto: Tid(0) }
     }
 
-    /// The bound.
+    /// The bound: no noted handle has a later transaction.
     pub fn upto(&self) -> Tid
         ensures { result ≡ self.now }
     {
@@ -85,7 +85,7 @@ impl Committed {
         }
     }
 
-    /// The number.
+    /// The number of the transaction up to which all is committed.
     pub fn upto(&self) -> Tid
         ensures { result ≡ self.now }
     {

@@ -1,4 +1,4 @@
-//! Writes byte ranges.
+//! Cuts a write of a byte range into handles, and keeps the rest of its first and last block.
 ghost use Rattle.std.specs.Prelude.{◌≡◌, ◌≤◌, ◌<◌, ◌+◌, ◌/◌, ◌%◌, ◌^◌, ◌++◌, true, false, length, replicate, IfOk, OnOk};
 ghost use Rattle.byte_volume.specs.Writing.{AddsHead, AddsTail, IsOverlay, LieWithin, WritesAll, WritesOnce, WritesPieces, WritesRange, write_steps};
 

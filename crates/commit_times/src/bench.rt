@@ -124,7 +124,7 @@ fn now<C: Clock>(clock: &C) -> Result<Instant, Fault> {
 struct Run<D: Device> {
     work: Work<D>,
     tally: Tally,
-    /// When it began.
+    /// When the run began.
     begun: Instant,
     /// From there to the last commit.
     taken: Duration,

@@ -20,9 +20,9 @@ use std::time::{Clock, Duration, Instant};
 /// What all clients share.
 #[derive(Drop)]
 pub(crate) struct Shared<'s, J: JournalName, D: Device, C> {
-    /// The clock.
+    /// The clock that all clients read.
     pub(crate) clock: &'s C,
-    /// The journal.
+    /// The journal that all clients share.
     pub(crate) journal: &'s Journal<J, D>,
     /// Its holder takes the turns.
     pub(crate) turns: Mutex<Rounds>,
@@ -85,14 +85,14 @@ impl<'s, J: JournalName, D: Device, C> Shared<'s, J, D, C> {
     }
 }
 
-/// A client.
+/// A client's own state: its slot, its plan and its results.
 #[derive(Drop)]
 pub(crate) struct Client<'s, J: JournalName, D: Device, C> {
     /// What all clients share.
     pub(crate) shared: &'s Shared<'s, J, D, C>,
     /// Its own slot.
     pub(crate) seat: Seat<J>,
-    /// What it writes.
+    /// The blocks that each of its changes writes.
     pub(crate) plan: Plan,
     /// The bytes of the block that it wrote last.
     pub(crate) bytes: Vec<u8>,

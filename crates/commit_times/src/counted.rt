@@ -12,7 +12,7 @@ pub(crate) struct Calls {
     pub(crate) reads: u64,
     /// Writes of one block.
     pub(crate) writes: u64,
-    /// Flushes.
+    /// Flushes of the area.
     pub(crate) flushes: u64,
 }
 

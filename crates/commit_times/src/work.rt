@@ -1,9 +1,9 @@
-//! Durable transactions of one handle each.
+//! Which blocks a transaction of `bench` writes, and how it is made durable.
 ghost use Rattle.std.specs.Prelude.{◌≡◌, ◌≤◌, IfOk, []};
 ghost use Rattle.commit_times.specs.Closed.{IsLeftClosed};
 
 use block_device::Device;
-use group_commit::{Handle, Journal, Receipt, Ticket};
+use group_commit::{FrontCalls, Handle, Journal, Receipt, Ticket};
 use journal_model::{BlockNo, JournalError};
 use rand_core::{Rng, SeedableRng};
 use rand_xoshiro::Xoshiro256PlusPlus;

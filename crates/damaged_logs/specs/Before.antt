@@ -44,8 +44,8 @@ pub record Takes (shape : Shape) (image : Image) (texts : List Text) (greatest :
   pub greatest_is : IsGreatest (super_of image) image (end_of image texts) greatest
   pub passed_over : IsPassedOver shape image stopped
 
--- Home is the replay of the transactions taken; the log is clean and opened, with the number after the greatest in use. Of the log only
--- block 0 is written, and nothing if it was clean and nothing stopped.
+-- Home is the replay of the transactions taken; the log is clean and opened, with the number after the greatest in use. Block 0 alone of
+-- the log is written, and nothing if it was clean and nothing stopped.
 pub record IsOpeningBefore (shape : Shape) (old new : Disk) (texts : List Text) (greatest : ℕ) (stopped : Option JournalError) (superblock : List ℕ) (next : ℕ) : Type 0 where
   pub takes : Takes shape (reading old) texts greatest stopped
   pub number : next ≡ greatest + 1

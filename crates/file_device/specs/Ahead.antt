@@ -38,7 +38,7 @@ pub record KeepsAhead (contents : FileContents) (size : ℕ) (calls : List FileC
   pub reads : (k : ℕ) → k < a.count → AgreesEach contents size calls →
       block_of size a.bytes.items k ≡ ((after_calls contents size calls).disk Log (a.first + k)).reads
 
--- a write to the log drops what is kept; a write to home does not
+-- a write to the log drops the blocks read ahead; a write to home keeps them
 abbrev pub IsForgotten : Area → Ahead → Ahead → Type 0
 IsForgotten Log old new = new ≡ record old { count = 0 }
 IsForgotten Home old new = new ≡ old

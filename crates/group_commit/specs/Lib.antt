@@ -5,3 +5,4 @@ pub mod AllTurns
 pub mod Calls
 pub mod During
 pub mod Rounds
+pub mod Begun

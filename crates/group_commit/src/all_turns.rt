@@ -9,6 +9,7 @@ ghost use Rattle.group_commit.specs.During.{HoldsDuringRounds, HoldsDuringTurns}
 ghost use Rattle.journal_steps.specs.Journal.{NothingToRelease};
 
 use crate::close::{finish_commit, release_all, seal_last};
+use crate::front_calls::FrontCalls;
 use crate::journal::Journal;
 use crate::ticket::{Receipt, Ticket};
 use block_device::Device;

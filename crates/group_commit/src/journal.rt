@@ -1,19 +1,20 @@
 //! The journal of one thread: a front and an engine, and the calls on them.
-ghost use Rattle.std.specs.Prelude.{◌≡◌, ◌+◌, ◌<◌, ◌≤◌, ◌≢◌, ◌↔◌, true, false, length, [], IfOk, IfErr, MatchResult, OnOk, IsTrue, Some, None};
+ghost use Rattle.std.specs.Prelude.{◌≡◌, ◌<◌, ◌≤◌, ◌≢◌, ◌↔◌, true, false, length, [], IfOk, IfErr, MatchResult, OnOk, IsTrue};
 ghost use Rattle.journal_model.specs.declared.refusal.JournalError.TheVariants.{Aborted, Device as DeviceFailed, Memory};
 ghost use Rattle.journal_model.specs.Disk.{Image, Leaves};
 ghost use Rattle.journal_model.specs.Record.{IsLegal};
 ghost use Rattle.journal_model.specs.Transaction.{entries};
 ghost use Rattle.block_device.specs.State.{EachMoment, MakesAtMostOneCall, one_more_fault};
 ghost use Rattle.journal_world.specs.declared.stage.Stage.TheVariants.{Idle};
-ghost use Rattle.journal_world.specs.Front.{held, next_handle};
-ghost use Rattle.journal_world.specs.Front.FrontEvent.{GiveBack, Join, Reserve, RevokeBlock, StopHandle, WriteBlock};
+ghost use Rattle.journal_world.specs.Front.{held};
+ghost use Rattle.journal_world.specs.Front.FrontEvent.{StopHandle};
 ghost use Rattle.journal_world.specs.Sound.{IsPlain};
 ghost use Rattle.journal_world.specs.Journal.{IsFresh, batch_of};
 ghost use Rattle.journal_world.specs.Journal.Event.{FrontStep, ReadBlock, Seal};
-ghost use Rattle.log_epochs.specs.EngineWorld.Phase.{Running, Shut};
+ghost use Rattle.log_epochs.specs.EngineWorld.Phase.{Shut};
 ghost use Rattle.log_epochs.specs.JournalPromise.{IsClosed};
 ghost use Rattle.log_epochs.specs.JournalWorld.{Begins};
+ghost use Rattle.group_commit.specs.Begun.{world_of_new};
 ghost use Rattle.block_device.specs.Call.{MakesOneCall, OnlyReads};
 ghost use Rattle.log_engine.specs.Close.{IsAllReleased, MakesCloseCalls};
 ghost use Rattle.log_engine.specs.Left.{commit_calls};
@@ -25,10 +26,11 @@ ghost use Rattle.group_commit.specs.AllTurns.{IsReadyToSeal};
 ghost use Rattle.group_commit.specs.Calls.{CallsForClose, engine_in};
 ghost use Rattle.group_commit.specs.During.{IsDuringRounds, IsDuringTurns};
 ghost use Rattle.group_commit.specs.Close.{CloseDid, CloseRefused, EndsWith, SealRefused, closing, locked_journal};
-ghost use Rattle.journal_front.specs.Front.{IsOpenHandle, JoinRefused, ReserveRefused, Spends, TouchRefused};
+ghost use Rattle.journal_front.specs.Front.{IsOpenHandle};
 ghost use Rattle.group_commit.specs.Values.{StatusIs};
 
 use crate::close::finish;
+use crate::front_calls::FrontCalls;
 use crate::ticket::{Receipt, Ticket};
 use block_device::Device;
 use journal_front::{Credits, Front, Handle, Record, Unrecorded};
@@ -83,17 +85,7 @@ impl<D: Device, R: Record> Journal<D, R> {
     pub fn new(alloc: Global, opened: Opened<D>) -> Result<Self, (Opened<D>, JournalError)>
         ensures fresh { IfOk result (λ r. IsFresh (D.state opened.device).shape opened.superblock opened.next r.journal) }
         ensures device { IfOk result (λ r. r.device ≡ opened.device) }
-        ensures begins { IfOk result (λ r. D.honest opened.device → Begins (record {
-          below = record {
-            shape = (D.state r.device).shape;
-            disk = (D.state r.device).disk;
-            phase = Running;
-            epoch = Some (record { opening = (D.state opened.device).disk; engine = r.journal.engine; directs = []; pin = None });
-            ended = [];
-          };
-          told = record { front = r.journal.front; answered = [] };
-          past = [];
-        })) }
+        ensures begins { IfOk result (λ r. D.honest opened.device → Begins (world_of_new D.state opened.device r)) }
         ensures err { IfErr result (λ e. (e.0 ≡ opened) × (e.1 ≡ Memory)) }
     {
         let next = opened.next();
@@ -111,6 +103,16 @@ impl<D: Device, R: Record> Journal<D, R> {
         ensures { result ≡ together front engine }
     {
         Journal { front, engine }
+    }
+
+    /// Ends the journal, and answers its front and its engine.
+    pub fn into_sides(self) -> (Front<R>, Engine<D>)
+        ensures sides { together result.0 result.1 ≡ self }
+        ensures agrees { Agrees self.journal }
+        ensures legal { KeepsLegal D.honest self }
+    {
+        let Journal { front, engine } = self;
+        (front, engine)
     }
 
     /// Its front, for inspection.
@@ -146,88 +148,6 @@ impl<D: Device, R: Record> Journal<D, R> {
         ensures { result ≡ length (entries self.now.journal.front.running.steps) }
     {
         self.front.entries()
-    }
-
-    /// Grants `n` credits, each for the first touch of one block.
-    ///
-    /// # Errors
-    ///
-    /// Nothing changes. `TooMany` (more than one transaction can have) or `Full` (more than the credits held leave).
-    /// Source: journalling.rst (`journal_start`).
-    pub fn reserve(&mut self, n: u64) -> Result<Credits, JournalError>
-        ensures ok { IfOk result (λ credits. (credits ≡ n) × Does D.state self.old (FrontStep (Reserve n)) self.new) }
-        ensures err { IfErr result (λ e. ReserveRefused self.old.journal.front n e × (self.new ≡ self.old)) }
-        ensures device { self.new.device ≡ self.old.device }
-    {
-        self.front.reserve(n)
-    }
-
-    /// Takes back credits that are in no handle. If this journal has granted fewer, they are another's, and nothing changes.
-    pub fn give_back(&mut self, credits: Credits)
-        ensures gives { credits ≤ self.old.journal.front.reserved → Does D.state self.old (FrontStep (GiveBack credits)) self.new }
-        ensures other { self.old.journal.front.reserved < credits → self.new ≡ self.old }
-        ensures device { self.new.device ≡ self.old.device }
-    {
-        self.front.take_back(credits);
-    }
-
-    /// Makes a handle of the running transaction with these credits.
-    ///
-    /// # Errors
-    ///
-    /// The credits come back, and nothing else changes. The first of: `Aborted`, `NotRunning` (the transaction is locked),
-    /// `SequenceEnd` (no number is left for transaction or handle), `NoCredit` (more than this journal granted and no handle holds),
-    /// `Memory`.
-    /// Source: journalling.rst (`journal_start`).
-    pub fn try_join(&mut self, credits: Credits) -> Result<Handle, (Credits, JournalError)>
-        ensures ok { IfOk result (λ handle. Does D.state self.old (FrontStep (Join credits)) self.new
-            × (handle ≡ record { number = next_handle self.old.journal.front; tid = self.old.journal.front.running.tid; left = credits })) }
-        ensures open { IfOk result (IsOpenHandle self.new.journal.front) }
-        ensures err { IfErr result (λ e. (e.0 ≡ credits) × JoinRefused self.old.journal.front credits e.1 × (self.new ≡ self.old)) }
-        ensures device { self.new.device ≡ self.old.device }
-    {
-        self.front.join_with(credits)
-    }
-
-    /// Writes one block of the home area in the handle's transaction. The transaction's first touch of a block takes one credit.
-    ///
-    /// # Errors
-    ///
-    /// Nothing changes. The first of: `Aborted`; `BadBlock` (home has no such block, or its number is not below 2^32, in a log with
-    /// 64-bit numbers 2^48); `NoCredit` (the handle is not open here, or has none for a first touch); `Memory`.
-    /// Source: journalling.rst (`journal_get_write_access`, `journal_dirty_metadata`).
-    pub fn write(
-        &mut self,
-        handle: &mut Handle,
-        block: BlockNo,
-        bytes: &[u8],
-    ) -> Result<(), JournalError>
-        requires { length bytes.now ≡ (D.state self.old.device).shape.block_size }
-        ensures ok { OnOk result (Does D.state self.old (FrontStep (WriteBlock handle.old.number block bytes.now)) self.new) }
-        ensures open { OnOk result (IsOpenHandle self.old.journal.front handle.old × IsOpenHandle self.new.journal.front handle.new) }
-        ensures spends { OnOk result (Spends self.old.journal.front block handle.old handle.new) }
-        ensures err { IfErr result (λ e. TouchRefused self.old.journal.front handle.old block e × (self.new ≡ self.old) × (handle.new ≡ handle.old)) }
-        ensures device { self.new.device ≡ self.old.device }
-    {
-        self.engine.recall_invariant();
-        self.front.write(handle, block, bytes)
-    }
-
-    /// Revokes a block in the handle's transaction: once that commits, no checkpoint or opening brings an older copy home. The
-    /// transaction's first touch of a block takes one credit; revoking a revoked block changes nothing more.
-    ///
-    /// # Errors
-    ///
-    /// Those of `write`, in that order; nothing changes.
-    /// Source: journalling.rst (`journal_revoke`), fs/jbd2/revoke.c by behaviour.
-    pub fn revoke(&mut self, handle: &mut Handle, block: BlockNo) -> Result<(), JournalError>
-        ensures ok { OnOk result (Does D.state self.old (FrontStep (RevokeBlock handle.old.number block)) self.new) }
-        ensures open { OnOk result (IsOpenHandle self.old.journal.front handle.old × IsOpenHandle self.new.journal.front handle.new) }
-        ensures spends { OnOk result (Spends self.old.journal.front block handle.old handle.new) }
-        ensures err { IfErr result (λ e. TouchRefused self.old.journal.front handle.old block e × (self.new ≡ self.old) × (handle.new ≡ handle.old)) }
-        ensures device { self.new.device ≡ self.old.device }
-    {
-        self.front.revoke(handle, block)
     }
 
     /// Reads one block of the home area: the running transaction's copy, else the copy being committed, else the newest committed copy,
@@ -312,25 +232,6 @@ impl<D: Device, R: Record> Journal<D, R> {
         ensures device { self.new.device ≡ self.old.device }
     {
         self.request_commit(ticket.tid())
-    }
-
-    /// As `request`, for the transaction with this number.
-    ///
-    /// # Errors
-    ///
-    /// `Aborted`.
-    pub fn request_commit(&mut self, tid: Tid) -> Result<(), JournalError>
-        ensures ok { OnOk result (Requests D.state tid self.old self.new) }
-        ensures err { IfErr result (λ e. (e ≡ Aborted) × (self.old.journal.front.aborted ≡ true) × (self.new ≡ self.old)) }
-        ensures device { self.new.device ≡ self.old.device }
-    {
-        if self.front.is_aborted() {
-            return Err(JournalError::Aborted);
-        }
-        if tid == self.front.tid() {
-            self.front.lock();
-        }
-        Ok(())
     }
 
     /// Locks the running transaction if a handle has joined it, so that it can be sealed once its handles have stopped. It answers the
@@ -533,12 +434,12 @@ impl<D: Device, R: Record> Journal<D, R> {
     ///
     /// # Errors
     ///
-    /// What is left of the journal comes back: what was sealed and committed by then stays so, and what a stop leaves of the
-    /// device opens as it says. `Aborted` after a device failure: nothing was done. `Device` where the device failed. `Memory`
-    /// where it ran out for the seal of the running transaction, which is then not sealed: all memory that the close takes it asks
-    /// for before its first call of the device, so that nothing was done. (The contract leaves room for a refusal after the commit
-    /// that was under way, where all before it is committed. A whole ring has room for it, since it needs at most a quarter.) It makes
-    /// the device calls of its turns, and a write and a flush where the log is not clean. At each moment of it a stop opens as between them.
+    /// The journal's parts come back: what was sealed and committed by then stays so, and every crash image of the device opens as they
+    /// say. `Aborted` after a device failure: nothing was done. `Device` where the device failed. `Memory` where it ran out for the seal of
+    /// the running transaction, which is then not sealed: all memory that the close takes it asks for before its first call of the device,
+    /// so that nothing was done. (The contract leaves room for a refusal after the commit that was under way, where all before it is
+    /// committed. A whole ring has room for it, since it needs at most a quarter.) It makes the device calls of its turns, and a write and a
+    /// flush where the log is not clean. At each moment of it a crash image opens as between them.
     /// Source: fs/jbd2/journal.c by behaviour (`jbd2_journal_destroy`).
     pub fn close(self) -> Result<Parts<D, R>, (Parts<D, R>, JournalError)>
         requires { self.journal.front.open_handles ≡ [] }
@@ -647,5 +548,54 @@ impl<D: Device, R: Record> Journal<D, R> {
             sealed: front.into_sealed(),
             committed: committed as u64,
         }
+    }
+}
+
+/// A journal knows its engine.
+impl<D: Device, R: Record> FrontCalls<D> for Journal<D, R> {
+    ghost known = { λ j. j };
+
+    fn reserve(&mut self, n: u64) -> Result<Credits, JournalError> {
+        self.front.reserve(n)
+    }
+
+    fn give_back(&mut self, credits: Credits) {
+        self.front.take_back(credits);
+    }
+
+    fn try_join(&mut self, credits: Credits) -> Result<Handle, (Credits, JournalError)> {
+        self.front.join_with(credits)
+    }
+
+    fn give(
+        &mut self,
+        handle: &mut Handle,
+        credits: Credits,
+    ) -> Result<(), (Credits, JournalError)> {
+        self.front.give(handle, credits)
+    }
+
+    fn write(
+        &mut self,
+        handle: &mut Handle,
+        block: BlockNo,
+        bytes: &[u8],
+    ) -> Result<(), JournalError> {
+        self.engine.recall_invariant();
+        self.front.write(handle, block, bytes)
+    }
+
+    fn revoke(&mut self, handle: &mut Handle, block: BlockNo) -> Result<(), JournalError> {
+        self.front.revoke(handle, block)
+    }
+
+    fn request_commit(&mut self, tid: Tid) -> Result<(), JournalError> {
+        if self.front.is_aborted() {
+            return Err(JournalError::Aborted);
+        }
+        if tid == self.front.tid() {
+            self.front.lock();
+        }
+        Ok(())
     }
 }

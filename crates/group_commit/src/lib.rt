@@ -11,11 +11,13 @@
 mod all_turns;
 mod close;
 mod direct;
-mod extension;
+mod front_calls;
 mod journal;
+mod restart;
 mod ticket;
 
 pub use block_device::{Device, DeviceFault, MemDevice};
+pub use front_calls::FrontCalls;
 pub use journal::{Journal, Parts};
 pub use journal_front::{Credits, Front, Handle, Record, Unrecorded};
 pub use journal_model::{

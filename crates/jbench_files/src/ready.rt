@@ -42,7 +42,7 @@ impl ReadyLog {
         Ok(ReadyLog { file })
     }
 
-    /// A log of which only the superblock is used. It is rewritten as it reads, and synced.
+    /// A log whose superblock alone is used. It is rewritten as it reads, and synced.
     ///
     /// # Errors
     ///

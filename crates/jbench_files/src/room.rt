@@ -21,7 +21,7 @@ pub(crate) struct AreaFile<'a> {
 /// Proof that the disk has room for this many bytes of a file; only `reserve` makes one.
 #[derive(Clone, Copy)]
 pub(crate) struct Room {
-    /// How many bytes.
+    /// So many of the file's bytes have room on the disk.
     bytes: u64,
     /// The file's bytes before; the others are zeros.
     held: u64,

@@ -21,7 +21,7 @@ use std::io::Write;
 /// What was taken of a log.
 #[derive(Drop)]
 pub struct Taken {
-    /// The transactions.
+    /// Which transactions were taken.
     pub report: Report,
     /// The next transaction's number.
     pub next: Tid,

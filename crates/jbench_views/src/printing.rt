@@ -1,4 +1,4 @@
-//! Prints what is looked up in a log.
+//! Prints the results of look-ups in a log.
 ghost use Rattle.std.specs.Prelude.{◌≡◌, ◌≢◌, IfOk, None};
 ghost use Rattle.journal_model.specs.Disk.{reading};
 ghost use Rattle.block_device.specs.State.{Stays};

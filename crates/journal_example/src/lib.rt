@@ -7,7 +7,9 @@
 
 use anyhow::{Result, bail};
 use file_device::{FileDevice, UnknownContents, lock};
-use group_commit::{BlockNo, Device, Handle, Journal, JournalError, Receipt, Ticket, Tid};
+use group_commit::{
+    BlockNo, Device, FrontCalls, Handle, Journal, JournalError, Receipt, Ticket, Tid,
+};
 use recovery::Opened;
 use std::alloc::Global;
 use std::fs::{File, OpenOptions};

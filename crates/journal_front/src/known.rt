@@ -31,7 +31,7 @@ impl KnownTransaction {
         }
     }
 
-    /// Its number.
+    /// The transaction's number.
     pub fn tid(&self) -> Tid
         ensures { result ≡ self.now.tid }
     {

@@ -41,7 +41,7 @@ pub enum BadScript {
 /// A key that disagrees with the device at hand.
 #[derive(Drop)]
 pub struct Disagreement {
-    /// The key.
+    /// The key that disagrees.
     pub key: Key,
     /// What the device has, as a script would say it.
     pub device: String,
@@ -56,7 +56,7 @@ pub struct BadClient {
     pub client: usize,
     /// The operation's number among the client's, from 1.
     pub number: usize,
-    /// What is wrong.
+    /// Why it is none, or can't stand there.
     pub fault: ClientFault,
 }
 
@@ -105,7 +105,7 @@ pub struct BadOperation {
     pub number: usize,
     /// Its whole text if short, else the beginning.
     pub text: String,
-    /// What is wrong.
+    /// Why it is none, or can't stand there.
     pub fault: OperationFault,
 }
 

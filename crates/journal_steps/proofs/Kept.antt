@@ -4,7 +4,7 @@ use Rattle.std.specs.Prelude.{◌≡◌, ◌⊎◌, ℕ, ◌<◌, ◌≤◌, Res
 use Rattle.std.proofs.lemmas.Bool.Decides.{leb_tells}
 use Rattle.journal_world.specs.Engine.{Engine}
 use Rattle.journal_world.specs.Front.{Front, FrontEvent, FrontHappens}
-use Rattle.journal_world.specs.Front.FrontEvent.{GiveBack, Join, Lock, Reserve, RevokeBlock, StopHandle, WriteBlock}
+use Rattle.journal_world.specs.Front.FrontEvent.{ExtendHandle, GiveBack, Join, Lock, Reserve, RevokeBlock, StopHandle, WriteBlock}
 use Rattle.journal_steps.specs.Journal.{Agrees}
 use Rattle.journal_steps.proofs.Sealing.{IsTouch, agrees-revoked, agrees-untouched, agrees-written}
 
@@ -42,6 +42,12 @@ module _ (f front : Front) (e : Engine) (agrees : Agrees (record { front = f; en
       IfErr r (λ x. Back x × Why x × (front ≡ f)) → Agrees (record { front = front; engine = e })
   kept-join_with Says Back Why (Ok a) n ok err = kept-step (Join n) (λ touch. touch) ok.0
   kept-join_with Says Back Why (Err x) n ok err = kept-same err.2
+
+  -- after credits are given to a handle, or come back
+  pub kept-give : {A R : Type 0} (Back Why Rest : R → Type 0) (r : Result A R) (h n : ℕ) → OnOk r (FrontHappens f (ExtendHandle h n) front) →
+      IfErr r (λ x. Back x × Why x × (front ≡ f) × Rest x) → Agrees (record { front = front; engine = e })
+  kept-give Back Why Rest (Ok a) h n ok err = kept-step (ExtendHandle h n) (λ touch. touch) ok
+  kept-give Back Why Rest (Err x) h n ok err = kept-same err.2
 
   -- after a stop, of an open handle or not
   pub kept-stop : (h : ℕ) → (FrontHappens f (StopHandle h) front ⊎ (front ≡ f)) → Agrees (record { front = front; engine = e })

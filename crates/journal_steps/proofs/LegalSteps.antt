@@ -109,6 +109,11 @@ module _ (f front : Front) (legal : IsLegal (transactions f)) where
   kept_legal-join_with Says Back Why (Ok a) n ok err = kept_legal-step (Join n) ok.0
   kept_legal-join_with Says Back Why (Err x) n ok err = kept_legal-same err.2
 
+  pub kept_legal-give : {A R : Type 0} (Back Why Rest : R → Type 0) (r : Result A R) (event : FrontEvent) → OnOk r (FrontHappens f event front) →
+      IfErr r (λ x. Back x × Why x × (front ≡ f) × Rest x) → IsLegal (transactions front)
+  kept_legal-give Back Why Rest (Ok a) event ok err = kept_legal-step event ok
+  kept_legal-give Back Why Rest (Err x) event ok err = kept_legal-same err.2
+
   pub kept_legal-stop : (h : ℕ) → (FrontHappens f (StopHandle h) front ⊎ (front ≡ f)) → IsLegal (transactions front)
   kept_legal-stop h = ⊎_elim (λ stops. kept_legal-step (StopHandle h) stops) kept_legal-same
 

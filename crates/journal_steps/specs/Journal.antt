@@ -50,9 +50,9 @@ pub record IsGoodStep (l : Layout) (shape : Shape) (s : HandleStep) : Type 0 whe
   pub whole : IsWhole shape.block_size s.op
   pub allowed : IsAllowedBlock l shape.home_blocks s.block
 
--- Front and engine agree: sealed transactions are the accepted batches, finished and acknowledged ones the committed ones; the front
--- knows the layouts and whether the device has failed; credits are within this log's capacity; and its handles are as an audit needs
--- them.
+-- Front and engine agree. The sealed transactions are the accepted batches; the finished and acknowledged ones are the committed ones;
+-- the front knows the layouts and whether the device has failed; credits are within this log's capacity; and its handles are as an audit
+-- needs them.
 pub record Agrees (j : Journal) : Type 0 where
   pub layout : j.front.layout ≡ j.engine.layout
   pub home_blocks : j.front.home_blocks ≡ j.engine.shape.home_blocks

@@ -1,5 +1,5 @@
--- What the front holds, and its steps, none of which reads the engine. Callers step on the credit word and the mark without a
--- lock, so such a step may come between any two others.
+-- The front's state and its steps. No step reads the engine. Callers step on the credit word and the mark without a lock, so such a step
+-- may come between any two others.
 -- Source: journalling.rst (handles, transactions, credits), fs/jbd2/transaction.c by behaviour.
 use Rattle.std.specs.Prelude.{◌≡◌, ℕ, zero, suc, ◌+◌, ◌-◌, ◌^◌, ◌<◌, ◌≤◌, Bool, true, false, if◌then◌else◌, max, List, [], ◌∷◌, ◌++◌, length, drop, is_some, None}
 use Rattle.std.specs.List.{flat_map, sum_by}

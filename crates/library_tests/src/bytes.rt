@@ -1,4 +1,4 @@
-//! Steps over any device, whose blocks hold one byte over and over.
+//! Steps over a device whose blocks each hold one repeated byte.
 use block_device::{Device, DeviceFault};
 use journal_model::Area;
 use std::fmt::Debug;
@@ -19,7 +19,7 @@ pub enum Step {
     Has(Area, u64),
     /// A block is filled with a byte.
     Writes(Area, u64, u8),
-    /// That fails.
+    /// A write of this block fails.
     CantWrite(Area, u64, u8),
     /// A block reads as this byte.
     Reads(Area, u64, u8),
@@ -29,7 +29,7 @@ pub enum Step {
     CantRead(Area, u64),
     /// An area is flushed.
     Flushes(Area),
-    /// That fails.
+    /// A flush of this area fails.
     CantFlush(Area),
 }
 

@@ -2,7 +2,7 @@
 
 use crate::bytes::expect;
 use block_device::{Device, FailOnce, MemDevice};
-use group_commit::{Journal, Record, Ticket, Turn};
+use group_commit::{FrontCalls, Journal, Record, Ticket, Turn};
 use journal_model::{BlockNo, JournalError};
 use recovery::Opened;
 use std::alloc::Global;

@@ -3,6 +3,7 @@ ghost use Rattle.std.specs.Prelude.{◌≡◌};
 
 use crate::bytes::expect;
 use block_device::MemDevice;
+use group_commit::FrontCalls;
 use journal_model::{BlockNo, JournalError, Tid};
 use journal_sides::{EngineSide, FrontSide, SidesReconciler, UnnamedSides, reconcile, seal};
 use journal_steps::Turn;

@@ -52,15 +52,15 @@ pub data MakesCloseCalls {D : Type 0} (state : D → DeviceState) (old : EngineV
   NoCloseCall : new ≡ old.device → MakesCloseCalls state old new
   BothCloseCalls : old.engine.aborted ≡ false → old.engine.started ≡ true → (state new).calls ≤ (state old.device).calls + 2 → MakesCloseCalls state old new
 
--- A moment of a close. Home is as it was. Of the log block 0 alone is written, with the superblock of the clean log; the other
--- blocks are as they were, or durable as they read. What a stop leaves opens to all transactions.
+-- A moment of a close. Home is as it was. Block 0 alone of the log is written, with the superblock of the clean log; the other blocks are
+-- as they were, or durable as they read. Every crash image opens to all transactions.
 pub record IsDuringClose (e : Engine) (old disk : Disk) : Type 0 where
   pub home : KeepsHome old disk
   pub log : (n : ℕ) → n ≢ 0 → (disk Log n ≡ old Log n) ⊎ (disk Log n ≡ flushed old Log Log n)
   pub block_0 : (v : List ℕ) → IsOneOf (held (disk Log 0)) v → IsOneOf (held (old Log 0)) v ⊎ (v ≡ closed_superblock e)
   pub opens : OpensBetween e.shape e.accepted (length e.accepted) (length e.accepted) disk
 
--- a closed log: whatever a stop leaves of it is clean, and opens to all transactions
+-- a closed log: every crash image of it is clean, and opens to all transactions
 pub record IsClosedLog (e : Engine) (disk : Disk) : Type 0 where
   pub clean : (image : Image) → Leaves disk image → IsClean e.shape image
   pub opens : OpensBetween e.shape e.accepted (length e.accepted) (length e.accepted) disk

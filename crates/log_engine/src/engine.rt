@@ -307,9 +307,8 @@ impl<D: Device> Engine<D> {
     }
 
     /// Closes the log, asked once all that was handed over is committed and released, and hands out the device. Where the
-    /// log is not clean it writes the superblock of a clean log, with the number that the next transaction would have as
-    /// s_sequence, and flushes the log; a clean log it leaves alone. Whatever a stop leaves at any time opens to all
-    /// transactions. It takes no memory.
+    /// log is not clean it writes the superblock of a clean log, with the number that the next transaction would have as s_sequence, and
+    /// flushes the log; a clean log it leaves alone. Every crash image of any moment opens to all transactions. It takes no memory.
     ///
     /// # Errors
     ///

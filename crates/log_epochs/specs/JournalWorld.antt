@@ -82,7 +82,7 @@ pub record TellsAnew (old new : JournalWorld) : Type 0 where
   pub fresh : IsFreshTold epoch new.told
   pub past : new.past ≡ telling old.below.epoch old.told old.past
 
--- of the engine's steps only a read is no step of the journal
+-- each step of the engine but a read is a step of the journal
 abbrev pub TellsAfterStep : EngineEvent → JournalWorld → JournalWorld → Type 0
 TellsAfterStep (Read block bytes) old new = TellsSame old new
 TellsAfterStep (Accept batch) old new = ⊥

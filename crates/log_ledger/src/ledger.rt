@@ -38,7 +38,7 @@ pub struct Ledger {
     pub first: u32,
     /// The transactions handed over since then.
     pub accepted: History<Batch>,
-    /// Those not released.
+    /// The accepted batches that no round has released.
     pub kept: VecDeque<Batch>,
     pub committed: usize,
     pub stage: Stage,

@@ -1,4 +1,4 @@
-//! What is taken and what is free of the ring of log blocks.
+//! Which blocks of the ring are taken, and which are free.
 ghost use Rattle.std.specs.Prelude.{◌≡◌, ◌+◌, ◌-◌, ◌<◌, ◌≤◌, ◌^◌, OnOk, IfOk, IfErr};
 ghost use Rattle.journal_model.specs.declared.refusal.JournalError.TheVariants.{NeedSpace};
 ghost use Rattle.log_model.specs.Chain.{place_from, ring_place};
@@ -34,7 +34,7 @@ impl Model for Ring {
 }
 
 impl Ring {
-    /// The ring of log blocks `first` to `maxlen - 1`, at least 16, of which none is taken.
+    /// The ring of log blocks `first` to `maxlen - 1`, at least 16, all free.
     pub fn new(first: u32, maxlen: u32) -> Self
         requires behind { 0 < first }
         requires least { first + least_ring ≤ maxlen }

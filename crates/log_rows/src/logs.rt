@@ -25,7 +25,7 @@ pub struct Shape {
     pub home_blocks: u64,
 }
 
-/// The default measures.
+/// Measures that a row has unless it states others.
 const USUAL: Shape = Shape {
     measures: Measures {
         block_size: 1024,

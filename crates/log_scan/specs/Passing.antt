@@ -29,7 +29,7 @@ abbrev pub IsPassed : Super → ℕ → Image → List Text → List Piece → C
 IsPassed s limit image texts pieces cursor =
     StandBefore (layout_of s) limit s.s_sequence (lap (ring_of s) image s.s_start) texts pieces cursor.transactions cursor.position
 
--- the cursor stays at what is no part of a transaction
+-- the cursor stays before a block that is no part of a transaction
 abbrev pub cursor_behind : Cursor → Found → Cursor
 cursor_behind cursor (RevokeBlock n) = record { position = cursor.position + 1; transactions = cursor.transactions }
 cursor_behind cursor (Descriptor n) = record { position = cursor.position + (1 + n); transactions = cursor.transactions }

@@ -22,9 +22,9 @@ pub struct Request {
     pub command: u16,
     /// The reply repeats it.
     pub cookie: u64,
-    /// The first byte.
+    /// The first byte of the range.
     pub offset: u64,
-    /// How many bytes.
+    /// Length of the range in bytes.
     pub length: u32,
 }
 

@@ -1,4 +1,4 @@
-//! What is served.
+//! Which volume is served, and under which name.
 
 /// An export: a whole volume with a name.
 #[derive(Clone, Copy, Debug)]

@@ -63,7 +63,7 @@ impl<O: Write + Drop> Flusher<'_, O> {
     }
 }
 
-/// Registers an answer.
+/// Adds this answer to the recorded ones.
 fn register(committed: &mut Vec<Committed>, due: &Due) -> io::Result<()>
     ensures { OnOk result (committed.new.items ≡ committed.old.items ++ record { cookie = due.now.cookie; upto = due.now.upto } ∷ []) }
 {

@@ -160,7 +160,7 @@ pub enum Answer {
     Now(Reply),
     /// Given at once, with the read bytes.
     Bytes(ReadReply),
-    /// Owed.
+    /// Given once a commit is done.
     Later(Due),
 }
 

@@ -94,7 +94,7 @@ pub fn serve<
     })
 }
 
-/// The two tasks.
+/// The two tasks of a connection: one reads and answers requests, one gives the owed answers.
 fn parts<'m, I: Read + Drop, O: Write + Drop>(
     alloc: Global,
     export: Export<'m>,

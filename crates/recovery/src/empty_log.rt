@@ -16,11 +16,10 @@ use log_format::Super;
 /// Bytes of the largest block.
 const MOST_BYTES: usize = 4096;
 
-/// Makes an empty log of `maxlen` blocks, 17 to 1,048,576, the superblock among them, with this UUID. All of its blocks behind
-/// the superblock become zeros; what lies behind the log in its area is made durable as it reads, and home isn't touched. The
-/// superblock is written once the zeros are durable: so a stop within it, or after a device failure, leaves in block 0
-/// what might have stood there before, or the whole empty log; what the ring had may be gone. It makes one write for each block, two
-/// flushes, and no other call.
+/// Makes an empty log of `maxlen` blocks, 17 to 1,048,576, the superblock among them, with this UUID. All of its blocks after the
+/// superblock become zeros; the rest of the area after the log is made durable as it reads, and home isn't touched. The superblock is
+/// written once the zeros are durable: so a crash within this call, or after a device failure, leaves in block 0 what might have stood
+/// there before, or the whole empty log; what the ring had may be gone. It makes one write for each block, two flushes, and no other call.
 ///
 /// # Errors
 ///

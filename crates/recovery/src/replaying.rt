@@ -25,7 +25,7 @@ use log_scan::{Cursor, Finder, Found, Log};
 /// The copies of one descriptor.
 #[derive(Clone, Copy)]
 struct Copies {
-    /// Their transaction.
+    /// The transaction of these copies.
     tid: Tid,
     /// How many copies of the chain come before them.
     place: u64,

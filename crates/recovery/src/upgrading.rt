@@ -15,10 +15,10 @@ use log_format::Super;
 use log_scan::BlockBuffer;
 use std::alloc::Global;
 
-/// Gives an empty log block numbers of 64 bits: its superblock gets their feature, and every other byte of it stays. The answer is
-/// the log's s_sequence. Nothing is read but block 0, and home isn't touched. The calls that it makes are those of `upgrade_calls`
-/// (`specs/Upgrade.antt`): a flush of the log, one write of the superblock, a flush of the log; with the read there is no other call.
-/// From the first flush on, whatever a stop leaves opens to the same transactions, and the next one has the same number.
+/// Gives an empty log block numbers of 64 bits: its superblock gets their feature, and every other byte of it stays. The answer is the
+/// log's s_sequence. Nothing is read but block 0, and home isn't touched. The calls that it makes are those of `upgrade_calls`
+/// (`specs/Upgrade.antt`): a flush of the log, one write of the superblock, a flush of the log; with the read there is no other call. From
+/// the first flush on, every crash image opens to the same transactions, and the next one has the same number.
 ///
 /// # Errors
 ///

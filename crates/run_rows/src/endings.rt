@@ -13,7 +13,7 @@ pub struct Given {
     pub script: Script,
     /// The first place of an interruption.
     pub first: u64,
-    /// The last one.
+    /// The last place of an interruption.
     pub last: u64,
     /// The number of choices of the last writes to keep.
     pub choices: u64,

@@ -154,7 +154,7 @@ turn-comes Fact operations state old new shown (Committed tid) did shape led =
     (goes Fact operations Finish did.mid did.done (state new.device) (state new.device) shown (λ directs written. written)
     (goes Fact operations CommitStep old.journal did.mid (state old.device) (state new.device) shown (λ directs written. written) led did.commits shape) did.finishes refl) did.raises refl
 
--- a step in which the device failed, and of which the front was then told, is two moves
+-- a step in which the device failed, and a notice to the front, are two moves
 fault-comes : (Fact : Shape → Disk → Type 0) (operations : List Operation) {D : Type 0} (state : D → DeviceState) (old new : JournalValue D) (shown : Option ℕ) (fault : Event)
     → WritesOnly operations fault → FailsAndNotifies state fault old new → (state new.device).shape ≡ (state old.device).shape → HasComeTo Fact operations state old shown
     → HasComeTo Fact operations state new shown

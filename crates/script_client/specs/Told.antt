@@ -62,7 +62,7 @@ pub record HasLedTo (Fact : Shape → Disk → Type 0) (operations : List Operat
   pub leads : Leads start moves (running_world opening j state directs answered)
   pub greatest : shown ≡ greatest_of answered
 
--- the same for what is left of a journal: its device, the sealed transactions, and the noted one
+-- the same for the parts of a journal: its device, the sealed transactions, and the noted one
 pub record IsLedTo (Fact : Shape → Disk → Type 0) (operations : List Operation) (state : DeviceState) (sealed : History) (shown : Option ℕ) : Type 0 where
   pub journal : Journal
   pub led : HasLedTo Fact operations journal state shown

@@ -12,7 +12,7 @@ ghost use Rattle.journal_steps.specs.Direct.{DirectSyncRefused, DirectWriteRefus
 ghost use Rattle.journal_steps.specs.Journal.{CheckTurnDid, CheckTurnRefused, Does, RegistersRead, ReadRefused, Requests, TurnDid, TurnRefused};
 
 use block_device::Device;
-use group_commit::{CheckTurn, Handle, Journal, Parts, Receipt, Status, Ticket, Turn};
+use group_commit::{CheckTurn, FrontCalls, Handle, Journal, Parts, Receipt, Status, Ticket, Turn};
 use journal_model::{BlockNo, JournalError, Sealed, Tid};
 use journal_script::Operation;
 use recovery::Opened;
@@ -25,7 +25,7 @@ pub trait HomeFact {
     ghost holds: { Shape → Disk → Type 0 };
 }
 
-/// Nothing is known.
+/// No fact about the disk on which a run begins: every disk meets it.
 pub struct AnyHome;
 
 impl HomeFact for AnyHome {

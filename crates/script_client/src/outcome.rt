@@ -14,7 +14,7 @@ pub const PRINTED_BYTES: usize = 8;
 pub enum Outcome {
     /// Accepted; the number of the transaction that it is about.
     Transaction(Tid),
-    /// Accepted.
+    /// Accepted; there is nothing more to tell.
     Done,
     /// Accepted; the first bytes of the block.
     Begins([u8; PRINTED_BYTES]),
@@ -28,7 +28,7 @@ pub enum Outcome {
     Open,
     /// It did not run: its name stands for nothing that it needs or, for a start, for an open handle.
     Skipped,
-    /// Refused.
+    /// Refused for this cause.
     Refused(JournalError),
 }
 

@@ -27,7 +27,7 @@ use std::marker::Brand;
 /// Whether operations go on after one that a device failure refused.
 #[derive(Clone, Copy, Debug, PartialEq, Eq)]
 pub enum AfterFailure {
-    /// They end there.
+    /// The operation refused for the failure is the last.
     End,
     /// They go on; the aborted journal refuses them or answers as it does then.
     GoOn,
@@ -47,7 +47,7 @@ pub struct AfterRefusal {
 /// What is left of a journal after `perform` or `apply`.
 #[derive(Drop)]
 pub struct Performed<D> {
-    /// The device.
+    /// The journal's device.
     pub device: D,
     /// The sealed transactions, in order.
     pub sealed: Vec<Sealed>,

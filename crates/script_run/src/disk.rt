@@ -13,7 +13,7 @@ use std::alloc::Global;
 /// `StopAt` and `FailOnce` take this for no stop and no failure.
 pub(crate) const NEVER: u64 = 0;
 
-/// The device of a run: a disk in memory that may lose power at one of its writes, and of which one call may fail.
+/// The device of a run: a disk in memory that may lose power at one of its writes, and one of whose calls may fail.
 pub type RunDevice = FailOnce<StopAt<MemDevice>>;
 
 /// Makes a disk in memory with an empty log of these measures, all durable. Its writes are numbered from 1.

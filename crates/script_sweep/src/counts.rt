@@ -12,7 +12,7 @@ pub struct NotRight {
 }
 
 impl NotRight {
-    /// None of either.
+    /// No opening was wrong or refused.
     pub fn none() -> Self
         ensures { result ≡ record { wrong = 0; refused = 0 } }
     {

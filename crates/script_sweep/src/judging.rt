@@ -1,4 +1,4 @@
-//! Opens and judges the crash images of a run, and counts and prints what is not right.
+//! Opens and judges the crash images of a run, and counts and prints each that is not right.
 ghost use Rattle.std.specs.Prelude.{◌≡◌, ◌≢◌, IfOk, IsTrue, OnOk, false, true};
 ghost use Rattle.journal_model.specs.declared.refusal.JournalError.TheVariants.{Device, Memory, SequenceEnd};
 ghost use Rattle.journal_script.specs.Named.{AreNamedBy};

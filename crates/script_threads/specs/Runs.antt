@@ -28,7 +28,7 @@ abbrev pub named_by : Option TicketKnown → Option ToldReceipt
 named_by None = None
 named_by (Some r) = Some (record { tid = r.ticket.tid; handle = r.ticket.handle })
 
--- What was told of a handle of this transaction with this receipt.
+-- The answers for a handle of this transaction, with this receipt.
 pub record IsTold (tid : ℕ) (receipt : Option TicketKnown) (told : ToldHandle) : Type 0 where
   pub tid_is : told.tid ≡ tid
   pub receipt_is : told.receipt ≡ named_by receipt

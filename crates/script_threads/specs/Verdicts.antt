@@ -1,4 +1,4 @@
--- What a journal told of clients, what is left of it, and when each verdict is right.
+-- The journal's answers to clients, its parts, and when each verdict is right.
 use Rattle.std.specs.Prelude.{◌≡◌, ◌↔◌, ◌+◌, ◌<◌, ◌≤◌, ⊤, ℕ, Bool, true, false, IsTrue, List, [], Option, Some, None, All, Contains, IfSome, length, slice_index_or, take, Vec}
 use Rattle.std.specs.Global.{Global}
 use Rattle.journal_model.specs.declared.number.Area.TheVariants.{Home}
@@ -51,7 +51,7 @@ abbrev pub HasReceiptUpTo : Option ℕ → Option ToldReceipt → Type 0
 HasReceiptUpTo greatest None = ⊤
 HasReceiptUpTo greatest (Some receipt) = IsUpTo greatest receipt.tid
 
--- For each client, what was told of its handles, in order.
+-- For each client, the answers for its handles, in order.
 abbrev pub Told : Type 0
 Told = List (Vec ToldHandle Global)
 
@@ -78,7 +78,7 @@ pub data IsRecovered (device : MemState) (sealed : History) (shown : Option ℕ)
   IsRefused : (image : MemState) (e : JournalError) → IsCrashOf device [] image → IsRefusedImage image.shape (reading (state_of image).disk) e → right ≡ false →
       IsRecovered device sealed shown named right
 
--- What a journal told its clients, its tally after they ended, and its parts.
+-- The journal's answers to its clients, its tally after they ended, and its parts.
 pub record Served : Type 0 where
   pub clients : Told
   pub word : ℕ  -- the credit word

@@ -166,7 +166,7 @@ fn note_refused(
     Ok(())
 }
 
-/// The verdicts on what clients were told, on the tally after they ended, and on the journal's parts.
+/// The verdicts on the journal's answers to its clients, on the tally after they ended, and on the journal's parts.
 fn verdicts_of(
     alloc: Global,
     told: &[Vec<ToldHandle>],

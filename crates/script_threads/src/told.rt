@@ -1,4 +1,4 @@
-//! What a journal told its clients, as plain values.
+//! The journal's answers to its clients, as plain values.
 ghost use Rattle.std.specs.Prelude.{◌≡◌, IfOk};
 ghost use Rattle.std.specs.List.{AllZip};
 ghost use Rattle.script_threads.specs.Runs.{IsTold, named_by};
@@ -15,7 +15,7 @@ pub struct ToldReceipt {
     pub handle: HandleNo,
 }
 
-/// What a client was told of a handle.
+/// The journal's answers for one handle.
 #[derive(Clone, Copy, Debug)]
 pub struct ToldHandle {
     pub tid: Tid,
@@ -23,7 +23,7 @@ pub struct ToldHandle {
     pub receipt: Option<ToldReceipt>,
 }
 
-/// What was told of the handles of each client.
+/// The answers for each client's handles.
 pub(crate) fn told_of<J: JournalName, R: RecordOf>(
     alloc: Global,
     clients: &[ClientOutcome<J, R>],

@@ -1,4 +1,4 @@
-//! When each verdict on what a journal told its clients is true.
+//! Decides each verdict on the journal's answers to its clients.
 ghost use Rattle.std.specs.Prelude.{◌≡◌, ◌↔◌, ◌⊎◌, ◌≤◌, ℕ, Some, true, All, Contains, IfSome, IsTrue};
 ghost use Rattle.script_threads.specs.Verdicts.{AreAllTrue, AreCreditsRight, HasReceiptIn, HasReceiptUpTo, IsOfClient, IsOfHandle, IsReceiptOf, IsUpTo, NeverFall, StandsIn};
 ghost use Rattle.script_threads.specs.declared.told.ToldReceipt.{ToldReceipt};

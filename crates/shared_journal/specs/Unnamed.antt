@@ -1,4 +1,4 @@
--- An unnamed journal.
+-- The value of an unnamed journal: its state, and the name that it will get.
 use Rattle.std.specs.Prelude.{◌<◌}
 use Rattle.atomic_table.specs.Seated.{TableId}
 use Rattle.block_device.specs.State.{DeviceState}

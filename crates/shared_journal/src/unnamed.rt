@@ -1,12 +1,12 @@
 //! Creates a journal on an opened log, and then gives it its name.
-ghost use Rattle.std.specs.Prelude.{◌≡◌, ◌≤◌, [], IfErr, IfOk, Some, None};
+ghost use Rattle.std.specs.Prelude.{◌≡◌, ◌≤◌, IfErr, IfOk};
 ghost use Rattle.journal_model.specs.declared.refusal.JournalError.TheVariants.{Memory};
 ghost use Rattle.log_model.specs.Opening.{layout_of, ring_of};
 ghost use Rattle.log_model.specs.Room.{IsCapacity};
 ghost use Rattle.log_model.specs.Superblock.{super_in};
 ghost use Rattle.journal_world.specs.Journal.{IsFresh};
-ghost use Rattle.log_epochs.specs.EngineWorld.Phase.{Running};
 ghost use Rattle.log_epochs.specs.JournalWorld.{Begins};
+ghost use Rattle.group_commit.specs.Begun.{world_of_new};
 ghost use Rattle.recovery.specs.Values.{IsNextNamed};
 ghost use Rattle.handle.specs.Rule.{greatest_allotment, greatest_capacity};
 ghost use Rattle.handle.specs.Values.{fresh_seat};
@@ -64,17 +64,7 @@ pub fn create<D: Device, R: Record>(
 ) -> Result<UnnamedJournal<D, R>, (Opened<D>, JournalError)>
     ensures fresh { IfOk result (λ unnamed. IsFresh (D.state opened.device).shape opened.superblock opened.next unnamed.journal.journal) }
     ensures device { IfOk result (λ unnamed. unnamed.journal.device ≡ opened.device) }
-    ensures begins { IfOk result (λ unnamed. D.honest opened.device → Begins (record {
-      below = record {
-        shape = (D.state unnamed.journal.device).shape;
-        disk = (D.state unnamed.journal.device).disk;
-        phase = Running;
-        epoch = Some (record { opening = (D.state opened.device).disk; engine = unnamed.journal.journal.engine; directs = []; pin = None });
-        ended = [];
-      };
-      told = record { front = unnamed.journal.journal.front; answered = [] };
-      past = [];
-    })) }
+    ensures begins { IfOk result (λ unnamed. D.honest opened.device → Begins (world_of_new D.state opened.device unnamed.journal)) }
     ensures err { IfErr result (λ e. (e.0 ≡ opened) × (e.1 ≡ Memory)) }
 {
     let next = opened.next();

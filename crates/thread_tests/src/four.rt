@@ -31,7 +31,7 @@ const HOME_BLOCKS: u64 = 64;
 /// A block that all threads write.
 const SHARED: u64 = 40;
 
-/// The first of four blocks, each of which one thread writes directly.
+/// The first of four blocks; each is written directly by one thread.
 const DIRECT: u64 = 50;
 
 /// Takes a commit turn, or a checkpoint turn if the log is full. False if refused for good.

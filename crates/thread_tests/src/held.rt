@@ -173,7 +173,7 @@ fn commit_and_checkpoint<J: JournalName, D: Device, R: Wait>(
     false
 }
 
-/// Once a write is held, reads a home block of which the front has no copy, and so waits for the engine.
+/// Once a write is held, reads a home block without a copy in the front, and so waits for the engine.
 fn read_home<J: JournalName, D: Device, R: Wait>(
     rt: &R,
     journal: &Journal<J, D>,
@@ -219,7 +219,7 @@ fn write_and_read<J: JournalName, D: Device, R: Wait>(
     wrote.is_ok() && read.is_ok() && newest == 8 && read_other
 }
 
-/// Whether a block of which the front has a copy begins with this byte, by a read without a handle.
+/// Whether a block with a copy in the front begins with this byte, by a read without a handle.
 fn begins_with<J: JournalName, D: Device, R: Wait>(
     rt: &R,
     journal: &Journal<J, D>,
@@ -331,8 +331,8 @@ fn is_overtaken<R: Threads + Wait + Abort + Sync>(
     Ok(())
 }
 
-/// With one lock for front and engine, with reads that always take both, or with calls that wait for the engine's lock while they hold the
-/// front's, the handle would wait for the held write, and the gate would give up.
+/// The handle would wait for the held write, and the gate would give up, in three cases: one lock for front and engine; reads that always
+/// take both locks; calls that wait for the engine's lock while they hold the front's.
 #[test]
 fn a_handle_writes_while_a_commit_is_held(rt: HostRuntime) -> Result<(), Fail> {
     is_overtaken(&rt, rt.alloc(), Area::Log)?;

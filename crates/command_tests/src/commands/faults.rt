@@ -11,7 +11,7 @@ use std::test::Fail;
 const ONE_WRITE: &str =
     r#"{"ops": [["start",1,1],["write",1,9,"11"],["stop",1],["request",1],["commit"],["wait",1]]}"#;
 
-/// No stop.
+/// The words of a run that is not stopped.
 fn no_stop(alloc: Global) -> StopWords {
     StopWords {
         at_write: None,

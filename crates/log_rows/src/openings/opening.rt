@@ -76,9 +76,9 @@ pub fn second_openings(alloc: Global, given: &str) -> Result<String, RowError> {
     )?)
 }
 
-/// Openings of which each call fails in turn. Given: as for `openings`. Found: a line for each way in which they go, in the order of the
-/// failing calls: the answer of the opening, the answer of a second one right after it, each home block that is then not zeros, and the
-/// writes of both. The last line is of an opening without a failure.
+/// Openings whose calls fail in turn. Given: as for `openings`. Found: a line for each way in which they go, in the order of the failing
+/// calls: the answer of the opening, the answer of a second one right after it, each home block that is then not zeros, and the writes of
+/// both. The last line is of an opening without a failure.
 pub fn failed_openings(alloc: Global, given: &str) -> Result<String, RowError> {
     let log = log_of(alloc, given)?;
     let mut all = String::new(alloc);

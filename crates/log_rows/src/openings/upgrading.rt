@@ -104,9 +104,9 @@ pub fn stopped_upgrades(alloc: Global, given: &str) -> Result<String, RowError> 
     Ok(all)
 }
 
-/// Upgrades of which each call fails in turn, followed by a loss of power. Given: as for `upgrades`. Found: a line for each failing call,
-/// and for no unflushed write kept or the first: the answer of the upgrade, the superblock's features, and what an opening finds. The last
-/// two lines are of an upgrade without a failure.
+/// Upgrades whose calls fail in turn, followed by a loss of power. Given: as for `upgrades`. Found: a line for each failing call, and for
+/// no unflushed write kept or the first: the answer of the upgrade, the superblock's features, and what an opening finds. The last two
+/// lines are of an upgrade without a failure.
 pub fn failed_upgrades(alloc: Global, given: &str) -> Result<String, RowError> {
     let log = log_of(alloc, given)?;
     let mut all = String::new(alloc);
