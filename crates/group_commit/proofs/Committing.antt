@@ -1,10 +1,11 @@
 -- What a request and all turns after it come to.
 use Rattle.std.proofs.Common.{refl, sym, ◌∙◌, ap, subst, arith, ⊎_elim}
-use Rattle.std.specs.Prelude.{◌≡◌, ◌≢◌, ℕ, zero, suc, ◌<◌, Bool, true, false, length, eqb, Result, Ok, Err, IfErr, OnOk}
+use Rattle.std.specs.Prelude.{◌≡◌, ◌≢◌, ℕ, zero, suc, ◌-◌, ◌<◌, Bool, true, false, length, eqb, Result, Ok, Err, IfErr, OnOk}
 use Rattle.std.proofs.lemmas.Bool.Decides.{eqb_tells}
 use Rattle.journal_model.specs.declared.refusal.JournalError.{JournalError}
 use Rattle.journal_model.specs.declared.refusal.JournalError.TheVariants.{Device}
 use Rattle.block_device.specs.State.{DeviceState}
+use Rattle.journal_world.specs.declared.stage.Stage.TheVariants.{Idle}
 use Rattle.journal_world.specs.Front.{Front}
 use Rattle.journal_world.specs.Front.FrontEvent.{Lock}
 use Rattle.journal_world.specs.Journal.Event.{FrontStep}
@@ -17,7 +18,8 @@ use Rattle.group_commit.specs.AllTurns.CommitsAll.{WithRunning, WithoutRunning}
 use Rattle.group_commit.specs.AllTurns.ReleaseRefused.{ReleaseFailed}
 use Rattle.group_commit.specs.Close.{ComesTo, HasSealed, LastRefused, Went, WentWrong, locked_journal}
 use Rattle.group_commit.specs.Close.LastRefused.{FailedBefore, FailedAfter, LeftUnsealed, NotMadeReady}
-use Rattle.group_commit.specs.Rounds.{MakesNoRound, MakesRoomAlone}
+use Rattle.group_commit.specs.Rounds.{KeepsRoom, MakesNoRound, MakesRoomAlone}
+use Rattle.group_commit.proofs.Finishing.{sealed-went}
 use Rattle.group_commit.proofs.Leading.{comes-same, comes-step}
 
 module _ {D : Type 0} (state : D → DeviceState) where
@@ -50,11 +52,29 @@ module _ {D : Type 0} (state : D → DeviceState) where
   none-ready (Ok x) old new unready went none = WithoutRunning unready went none
   none-ready (Err e) old new unready went none = tt
 
-  -- if it was ready, sealing and committing it commits all that can be
-  pub ready-sealed : {T : Type 0} (r : Result T JournalError) (old new : JournalValue D) → IsReadyToSeal old.journal.front →
-      OnOk r (HasSealed state old new) → OnOk r (MakesRoomAlone state old new) → OnOk r (CommitsAll state old new)
-  ready-sealed (Ok x) old new ready has room = WithRunning ready has room
-  ready-sealed (Err e) old new ready has room = tt
+  -- if it was ready, sealing and committing it commits all that can be, with turns ahead of need
+  pub ready-sealed : {T : Type 0} (r : Result T JournalError) (old mid new : JournalValue D) (turns : ℕ) → IsReadyToSeal old.journal.front →
+      HasSealed state old mid → MakesRoomAlone state old mid → mid.journal.engine.stage ≡ Idle →
+      turns ≡ mid.journal.engine.start - old.journal.engine.start → OnOk r (Went state mid new) → OnOk r (KeepsRoom state turns mid new) →
+      OnOk r (CommitsAll state old new)
+  ready-sealed (Ok x) old mid new turns ready has room idle same went ahead =
+      WithRunning ready (sealed-went state old mid new has went)
+      (record { done = mid; alone = room; idle = idle; ahead = subst (λ (n : ℕ). KeepsRoom state n mid new) same ahead })
+  ready-sealed (Err e) old mid new turns ready has room idle same went ahead = tt
+
+  -- these turns leave the device's shape
+  pub ahead-shape : {T : Type 0} (r : Result T JournalError) (old mid new : JournalValue D) → (state mid.device).shape ≡ (state old.device).shape →
+      OnOk r (Went state mid new) → IfErr r (λ e. (e ≡ Device) × WentWrong state mid new) → (state new.device).shape ≡ (state old.device).shape
+  ahead-shape (Ok x) old mid new same went wrong = went.on.shape ∙ same
+  ahead-shape (Err e) old mid new same went wrong = wrong.1.on.shape ∙ same
+
+  -- a device failure in these turns refuses the turns, though all is committed
+  pub ahead-failed : {T : Type 0} (r : Result T JournalError) (old mid new : JournalValue D) → old.journal.engine.aborted ≡ false →
+      IsReadyToSeal old.journal.front → HasSealed state old mid → IfErr r (λ e. (e ≡ Device) × WentWrong state mid new) →
+      IfErr r (AllTurnsRefused state old new)
+  ahead-failed (Ok x) old mid new running ready has wrong = tt
+  ahead-failed (Err e) old mid new running ready has wrong =
+      subst (AllTurnsRefused state old new) (sym wrong.0) (FailedSealed running ready mid has wrong.1)
 
   -- a device failure in the commit under way refuses the turns
   pub turns-failed : {T : Type 0} (r : Result T JournalError) (old new : JournalValue D) → old.journal.engine.aborted ≡ false →
@@ -68,7 +88,7 @@ module _ {D : Type 0} (state : D → DeviceState) where
       ap (λ (b : Bool). record v { journal = record v.journal { front = record v.journal.front { locked = b } } }) (sym locked)
 
   -- a ready transaction that could not be sealed and committed refuses the turns
-  ready-refused : (old new : JournalValue D) (e : JournalError) → old.journal.engine.aborted ≡ false → IsReadyToSeal old.journal.front →
+  pub ready-refused : (old new : JournalValue D) (e : JournalError) → old.journal.engine.aborted ≡ false → IsReadyToSeal old.journal.front →
       0 < length old.journal.front.running.handles → LastRefused state old new e → AllTurnsRefused state old new e
   ready-refused old new e running ready joined (FailedBefore wrong) = FailedUnsealed running wrong
   ready-refused old new e running ready joined (FailedAfter mid has wrong) = FailedSealed running ready mid has wrong
@@ -77,13 +97,6 @@ module _ {D : Type 0} (state : D → DeviceState) where
       let same : new ≡ mid = is ∙ locked-same mid (ap (λ (f : Front). f.locked) went.on.front ∙ ready.0) in
       StaysReady running ready joined (subst (Went state old) (sym same) went)
       (subst (λ (v : JournalValue D). v.journal.engine.committed ≡ length v.journal.front.sealed) (sym same) all)
-
-  -- so it does for either answer
-  pub last-turns : {T : Type 0} (r : Result T JournalError) (old new : JournalValue D) → old.journal.engine.aborted ≡ false →
-      IsReadyToSeal old.journal.front → 0 < length old.journal.front.running.handles → IfErr r (LastRefused state old new) →
-      IfErr r (AllTurnsRefused state old new)
-  last-turns (Ok x) old new running ready joined refused = tt
-  last-turns (Err e) old new running ready joined refused = ready-refused old new e running ready joined refused
 
   -- refused rounds have failed
   pub release-failed : {T : Type 0} (r : Result T JournalError) (old new : JournalValue D) → old.journal.engine.aborted ≡ false →

@@ -431,7 +431,7 @@ module _ {D : Type 0} (state : D → DeviceState) where
       }
 
   -- later steps leave it sealed
-  sealed-went : (old mid new : JournalValue D) → HasSealed state old mid → Went state mid new → HasSealed state old new
+  pub sealed-went : (old mid new : JournalValue D) → HasSealed state old mid → Went state mid new → HasSealed state old new
   sealed-went old mid new has went =
       let low : old.journal.engine.committed ≤ mid.journal.engine.committed = has.committed in
       let high : mid.journal.engine.committed ≤ new.journal.engine.committed = went.on.committed in

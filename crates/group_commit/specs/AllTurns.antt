@@ -8,7 +8,7 @@ use Rattle.journal_world.specs.Front.{Front}
 use Rattle.journal_steps.specs.Journal.{Requests}
 use Rattle.journal_steps.specs.Values.{JournalValue}
 use Rattle.group_commit.specs.Close.{HasSealed, Went, WentWrong}
-use Rattle.group_commit.specs.Rounds.{MakesNoRound, MakesRoomAlone}
+use Rattle.group_commit.specs.Rounds.{MakesNoRound, MakesRoomAhead}
 
 -- why the rounds do not finish
 pub data ReleaseRefused {D : Type 0} (state : D → DeviceState) (old new : JournalValue D) : JournalError → Type 0 where
@@ -19,10 +19,10 @@ pub data ReleaseRefused {D : Type 0} (state : D → DeviceState) (old new : Jour
 abbrev pub IsReadyToSeal : Front → Type 0
 IsReadyToSeal f = (f.locked ≡ true) × (f.open_handles ≡ [])
 
--- everything that can be committed is: with the running transaction if it was ready, after rounds for lack of room; else without it,
--- and with no round
+-- everything that can be committed is: with the running transaction if it was ready, after rounds for lack of room, and before steps
+-- ahead of need; else without it, and with no round
 pub data CommitsAll {D : Type 0} (state : D → DeviceState) (old new : JournalValue D) : Type 0 where
-  WithRunning : IsReadyToSeal old.journal.front → HasSealed state old new → MakesRoomAlone state old new → CommitsAll state old new
+  WithRunning : IsReadyToSeal old.journal.front → HasSealed state old new → MakesRoomAhead state old new → CommitsAll state old new
   WithoutRunning : (IsReadyToSeal old.journal.front → ⊥) → Went state old new → MakesNoRound old.journal.engine new.journal.engine → CommitsAll state old new
 
 -- Why not everything is committed. A ready transaction that memory refused stays as it was. (The code reserves room first, so

@@ -1,4 +1,4 @@
-//! Calls that take every turn there is: commit one transaction, commit all, release all.
+//! Calls that take many turns: commit one transaction, commit all, make room ahead of need, release all.
 ghost use Rattle.std.specs.Prelude.{◌≡◌, ◌≤◌, false, IfErr, IfOk, OnOk};
 ghost use Rattle.journal_world.specs.declared.stage.Stage.TheVariants.{Idle};
 ghost use Rattle.log_epochs.specs.EngineWorld.Phase.{Running};
@@ -6,8 +6,10 @@ ghost use Rattle.group_commit.specs.AllTurns.{AllTurnsRefused, CommitRefused, Co
 ghost use Rattle.group_commit.specs.Calls.{CallsForTurns};
 ghost use Rattle.group_commit.specs.Close.{ComesTo, Went};
 ghost use Rattle.group_commit.specs.During.{HoldsDuringRounds, HoldsDuringTurns};
+ghost use Rattle.group_commit.specs.Rounds.{KeepsRoom};
 ghost use Rattle.journal_steps.specs.Journal.{NothingToRelease};
 
+use crate::ahead::keep_room;
 use crate::close::{finish_commit, release_all, seal_last};
 use crate::front_calls::FrontCalls;
 use crate::journal::Journal;
@@ -22,7 +24,8 @@ impl<D: Device, R: Record> Journal<D, R> {
     /// # Errors
     ///
     /// The ticket comes back. Those of `commit_all`; `NotRunning` if another handle of the transaction is still open: it takes no
-    /// further ones, so call again once that has stopped. A ticket of another journal may get this answer too.
+    /// further ones, so call again once that has stopped. A ticket of another journal may get this answer too. After `Device` the
+    /// transaction may be committed all the same, as `status` then says.
     /// Source: fs/jbd2/journal.c by behaviour (`jbd2_complete_transaction`).
     pub fn commit(&mut self, ticket: Ticket) -> Result<Receipt, (Ticket, JournalError)>
         ensures ok { IfOk result (λ receipt. (receipt ≡ ticket) × (ticket.tid ≤ self.new.journal.front.mark)) }
@@ -61,8 +64,9 @@ impl<D: Device, R: Record> Journal<D, R> {
     }
 
     /// Commits everything that can be committed, and answers the commit mark. It finishes the commit under way, then seals and commits
-    /// the running transaction if that is locked without open handles, after checkpoint rounds if the ring lacks room. It makes the
-    /// device calls of these steps alone, and at each moment the crash image opens as between them.
+    /// the running transaction if that is locked without open handles, after checkpoint rounds if the ring lacks room. Then it takes
+    /// checkpoint turns ahead of need, as `keep_room` does: as many as these commits took ring blocks. It makes the device calls of these
+    /// steps alone, and at each moment the crash image opens as between them.
     ///
     /// # Errors
     ///
@@ -86,6 +90,33 @@ impl<D: Device, R: Record> Journal<D, R> {
         }
         commit_ready(self)?;
         Ok(self.mark())
+    }
+
+    /// Takes so many checkpoint turns, or fewer: each only while a round is due, since one is under way or transactions that are not
+    /// released take at least half of the ring, or 640 of its blocks. Whoever takes commit turns makes room ahead of need by it: after each
+    /// commit, as many turns as the commit had. It takes no commit step, and leaves handles and credits. It makes the device calls of its
+    /// rounds alone, and at each moment the crash image opens as between them.
+    ///
+    /// # Errors
+    ///
+    /// `Aborted`, `Device`. What was written home stays.
+    /// Source: fs/jbd2/checkpoint.c by behaviour; that a round is made in parts is this project's own.
+    pub fn keep_room(&mut self, turns: u64) -> Result<(), JournalError>
+        ensures ok { OnOk result (Went D.state self.old self.new) }
+        ensures rounds { OnOk result (KeepsRoom D.state turns self.old self.new) }
+        ensures stage { self.new.journal.engine.stage ≡ self.old.journal.engine.stage }
+        ensures committed { self.new.journal.engine.committed ≡ self.old.journal.engine.committed }
+        ensures front { OnOk result (self.new.journal.front ≡ self.old.journal.front) }
+        ensures err { IfErr result (ReleaseRefused D.state self.old self.new) }
+        ensures calls { CallsForTurns D.state self.old self.new }
+        ensures moments { D.honest self.new.device → HoldsDuringRounds D.state self.old self.new }
+        ensures honest { D.honest self.new.device → D.honest self.old.device }
+    {
+        self.recall_invariant();
+        if self.is_aborted() {
+            return Err(JournalError::Aborted);
+        }
+        keep_room(self, turns)
     }
 
     /// Takes checkpoint turns until everything committed is home and the whole ring is free. It takes no commit step, and leaves
@@ -115,7 +146,7 @@ impl<D: Device, R: Record> Journal<D, R> {
     }
 }
 
-/// Finishes the commit under way, then seals and commits the running transaction if it is ready.
+/// Finishes the commit under way, then seals and commits the running transaction if it is ready, and takes checkpoint turns ahead of need.
 fn commit_ready<D: Device, R: Record>(journal: &mut Journal<D, R>) -> Result<(), JournalError>
     requires { journal.old.journal.engine.aborted ≡ false }
     ensures ok { OnOk result (CommitsAll D.state journal.old journal.new) }
@@ -129,7 +160,10 @@ fn commit_ready<D: Device, R: Record>(journal: &mut Journal<D, R>) -> Result<(),
 {
     journal.recall_invariant();
     if journal.is_ready() {
-        return seal_last(journal);
+        let before = journal.position();
+        seal_last(journal)?;
+        let blocks = journal.position().saturating_sub(before);
+        return keep_room(journal, blocks);
     }
     finish_commit(journal)
 }

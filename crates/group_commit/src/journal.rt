@@ -18,6 +18,7 @@ ghost use Rattle.group_commit.specs.Begun.{world_of_new};
 ghost use Rattle.block_device.specs.Call.{MakesOneCall, OnlyReads};
 ghost use Rattle.log_engine.specs.Close.{IsAllReleased, MakesCloseCalls};
 ghost use Rattle.log_engine.specs.Left.{commit_calls};
+ghost use Rattle.log_engine.specs.Rounds.{IsRoundDue};
 ghost use Rattle.journal_steps.specs.declared.turn.CheckTurn.TheVariants.{Idle as IdleCheck};
 ghost use Rattle.journal_steps.specs.Journal.{Agrees, CheckTurnDid, CheckTurnRefused, Does, FitsQuarter, HasRoomFor, IsDuringCheckTurn, IsDuringTurn, LeavesFewerRounds, NewestRefused, RegistersRead, OpensNow, OpensOver, ReadRefused, ReadsNewest, Requests, SealIsDue, TurnDid, TurnRefused};
 ghost use Rattle.journal_steps.specs.Legal.{KeepsLegal};
@@ -366,6 +367,19 @@ impl<D: Device, R: Record> Journal<D, R> {
         ensures { IsTrue result ↔ (self.now.journal.engine.stage ≡ Idle) }
     {
         self.engine.is_idle()
+    }
+
+    pub(crate) fn is_round_due(&self) -> bool
+        ensures { IsTrue result ↔ IsRoundDue self.now.journal.engine }
+    {
+        self.engine.is_round_due()
+    }
+
+    /// The ring position of the next transaction, or of the one being committed.
+    pub(crate) fn position(&self) -> u64
+        ensures { result ≡ self.now.journal.engine.start }
+    {
+        self.engine.position()
     }
 
     pub(crate) fn has_joined(&self) -> bool

@@ -8,6 +8,7 @@
 //! Only the journal has its front: credits and handles come of its calls alone, and only a turn or a close seals a transaction.
 #![tactic(auto)]
 
+mod ahead;
 mod all_turns;
 mod close;
 mod direct;

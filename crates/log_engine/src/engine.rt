@@ -19,6 +19,7 @@ ghost use Rattle.block_device.specs.Call.{MakesOneCall, OnlyReads};
 ghost use Rattle.log_engine.specs.Close.{CloseDid, CloseRefused, IsAllReleased, IsClosedLog, IsDuringClose, MakesCloseCalls};
 ghost use Rattle.log_engine.specs.Engine.{AcceptRefused, IsDuringCommit, IsDuringRound, MayTouch, ReadRefused, RoundDid, RoundRefused, StepDid, StepRefused};
 ghost use Rattle.log_engine.specs.Left.{LeavesFewer, commit_calls, round_calls};
+ghost use Rattle.log_engine.specs.Rounds.{IsRoundDue};
 
 use crate::call::make_call;
 use crate::close::write_first;
@@ -26,7 +27,7 @@ use block_device::Device;
 use block_tables::LastEffects;
 use checkpoint::Pending;
 use journal_model::{Area, Batch, BlockNo, JournalError, LogLayout};
-use journal_world::Stage;
+use journal_world::{Round, Stage};
 use log_format::Super;
 use log_ledger::{Due, Ledger, LogPlan, Progress, TextWriter};
 use recovery::Opened;
@@ -156,6 +157,24 @@ impl<D: Device> Engine<D> {
         ensures { result ≡ self.now.engine.ring.blocks }
     {
         self.ledger.ring.blocks()
+    }
+
+    /// The ring position of the next transaction, or of the one being committed. It counts blocks over all laps, and never falls.
+    pub fn position(&self) -> u64
+        ensures { result ≡ self.now.engine.start }
+    {
+        self.ledger.start
+    }
+
+    /// Whether a checkpoint round is due: one is under way, or transactions that are not released take at least half of the ring, or 640
+    /// of its blocks.
+    pub fn is_round_due(&self) -> bool
+        ensures { IsTrue result ↔ IsRoundDue self.now.engine }
+    {
+        let taken = self.ledger.start.saturating_sub(self.ledger.ring.tail());
+        taken >= 640
+            || taken >= self.ledger.ring.blocks() / 2
+            || !matches!(self.ledger.round, Round::Idle)
     }
 
     /// How many log blocks a transaction of so many copies and revokes needs, if the ring has as many free. A committed transaction's
