@@ -104,7 +104,7 @@ impl<D: Device + Drop> Work<D> {
         self.journal.write(handle, block, &self.bytes)
     }
 
-    /// Commits the transaction of a ticket, after checkpoint rounds if the ring has no room for it.
+    /// Commits the transaction of a ticket, with the rounds that `Journal::commit` makes.
     ///
     /// # Errors
     ///

@@ -14,6 +14,7 @@ use Rattle.journal_steps.specs.Journal.{Does, HasRoomFor, TurnDid}
 use Rattle.journal_steps.specs.Values.{JournalValue}
 use Rattle.group_commit.specs.Close.{Went, locked_journal}
 use Rattle.group_commit.specs.Rounds.{MakesNoRound, MakesRoomAlone}
+use Rattle.group_commit.proofs.Finishing.{went-nowhere}
 
 stepped-rounds : (e : Engine) (stage : Stage) → MakesNoRound e (stepped_from e stage)
 stepped-rounds e Idle = record { released = refl; tail = refl; round = refl }
@@ -58,13 +59,32 @@ module _ {D : Type 0} (state : D → DeviceState) where
   -- if the ring has room once the commit under way has ended, no round was made
   pub room-there : (old mid : JournalValue D) → Went state old mid → mid.journal.engine.stage ≡ Idle → MakesNoRound old.journal.engine mid.journal.engine →
       MakesRoomAlone state old mid
-  room-there old mid went idle first = record { mid = mid; went = went; idle = idle; first = first; none = λ has. first }
+  room-there old mid went idle first = record {
+    mid = mid;
+    went = went;
+    idle = idle;
+    first = first;
+    made = mid;
+    makes = went-nowhere state mid went.running;
+    none = λ has. no-rounds mid.journal.engine;
+    last = no-rounds mid.journal.engine;
+  }
 
   -- if it has none, any rounds are for lack of room
   pub room-wanted : {T : Type 0} (r : Result T JournalError) (old mid new : JournalValue D) → Went state old mid → mid.journal.engine.stage ≡ Idle →
-      MakesNoRound old.journal.engine mid.journal.engine → (HasRoomFor mid.journal → ⊥) → OnOk r (MakesRoomAlone state old new)
-  room-wanted (Ok x) old mid new went idle first lacks = record { mid = mid; went = went; idle = idle; first = first; none = λ has. absurd (lacks has) }
-  room-wanted (Err e) old mid new went idle first lacks = tt
+      MakesNoRound old.journal.engine mid.journal.engine → (HasRoomFor mid.journal → ⊥) → OnOk r (Went state mid new) →
+      OnOk r (MakesRoomAlone state old new)
+  room-wanted (Ok x) old mid new went idle first lacks makes = record {
+    mid = mid;
+    went = went;
+    idle = idle;
+    first = first;
+    made = new;
+    makes = makes;
+    none = λ has. absurd (lacks has);
+    last = no-rounds new.journal.engine;
+  }
+  room-wanted (Err e) old mid new went idle first lacks makes = tt
 
   -- after the room is made, the seal and its commit make no round
   pub sealed-rounds : {T : Type 0} (r : Result T JournalError) (old mid sealed new : JournalValue D) → MakesRoomAlone state old mid →
@@ -75,7 +95,10 @@ module _ {D : Type 0} (state : D → DeviceState) where
     went = room.went;
     idle = room.idle;
     first = room.first;
-    none = λ has. rounds-after old.journal.engine mid.journal.engine new.journal.engine (room.none has)
+    made = room.made;
+    makes = room.makes;
+    none = room.none;
+    last = rounds-after room.made.journal.engine mid.journal.engine new.journal.engine room.last
         (rounds-after mid.journal.engine sealed.journal.engine new.journal.engine seal commit);
   }
   sealed-rounds (Err e) old mid sealed new room seal commit = tt

@@ -15,14 +15,17 @@ pub record MakesNoRound (old new : Engine) : Type 0 where
   pub tail : new.tail ≡ old.tail
   pub round : new.round ≡ old.round
 
--- rounds were made only for lack of room: none until the commit under way ended, and none later if the ring then had room for the
--- running transaction
+-- Rounds were made only for lack of room, and only before the seal: none until the commit under way had ended, none while room was made
+-- if the ring then had it for the running transaction, and none later. Moves that make room seal nothing.
 pub record MakesRoomAlone {D : Type 0} (state : D → DeviceState) (old new : JournalValue D) : Type 0 where
   pub mid : JournalValue D
   pub went : Went state old mid
   pub idle : mid.journal.engine.stage ≡ Idle
   pub first : MakesNoRound old.journal.engine mid.journal.engine
-  pub none : HasRoomFor mid.journal → MakesNoRound old.journal.engine new.journal.engine
+  pub made : JournalValue D
+  pub makes : Went state mid made
+  pub none : HasRoomFor mid.journal → MakesNoRound mid.journal.engine made.journal.engine
+  pub last : MakesNoRound made.journal.engine new.journal.engine
 
 -- so many checkpoint turns lead from the one journal to the other, each taken while a round is due
 pub data TakesDueTurns {D : Type 0} (state : D → DeviceState) (old : JournalValue D) : ℕ → JournalValue D → Type 0 where
@@ -37,8 +40,8 @@ pub record KeepsRoom {D : Type 0} (state : D → DeviceState) (turns : ℕ) (old
   pub few : count ≤ turns
   pub all : (count ≡ turns) ⊎ (IsRoundDue new.journal.engine → ⊥)
 
--- rounds were made only for lack of room, up to a moment at which all was committed; later turns were ahead of need, no more than the
--- commits took ring blocks
+-- a commit made rounds only for lack of room before its seal; once it had ended, turns ahead of need followed, no more than it and the
+-- commit under way took ring blocks
 pub record MakesRoomAhead {D : Type 0} (state : D → DeviceState) (old new : JournalValue D) : Type 0 where
   pub done : JournalValue D
   pub alone : MakesRoomAlone state old done

@@ -19,13 +19,13 @@ use journal_front::Record;
 use journal_model::{JournalError, Tid};
 
 impl<D: Device, R: Record> Journal<D, R> {
-    /// Requests the commit of the ticket's transaction and takes all turns; the ticket becomes its receipt.
+    /// Requests the commit of the ticket's transaction and takes all turns, as `commit_all` does; the ticket becomes its receipt.
     ///
     /// # Errors
     ///
-    /// The ticket comes back. Those of `commit_all`; `NotRunning` if another handle of the transaction is still open: it takes no
-    /// further ones, so call again once that has stopped. A ticket of another journal may get this answer too. After `Device` the
-    /// transaction may be committed all the same, as `status` then says.
+    /// The ticket comes back. Those of `commit_all`, and the request stays made unless the answer is `Aborted`; `NotRunning` if another
+    /// handle of the transaction is still open: it takes no further ones, so call again once that has stopped. A ticket of another journal
+    /// may get this answer too. After `Device` the transaction may be committed all the same, as `status` then says.
     /// Source: fs/jbd2/journal.c by behaviour (`jbd2_complete_transaction`).
     pub fn commit(&mut self, ticket: Ticket) -> Result<Receipt, (Ticket, JournalError)>
         ensures ok { IfOk result (λ receipt. (receipt ≡ ticket) × (ticket.tid ≤ self.new.journal.front.mark)) }
@@ -64,14 +64,15 @@ impl<D: Device, R: Record> Journal<D, R> {
     }
 
     /// Commits everything that can be committed, and answers the commit mark. It finishes the commit under way, then seals and commits
-    /// the running transaction if that is locked without open handles, after checkpoint rounds if the ring lacks room. Then it takes
-    /// checkpoint turns ahead of need, as `keep_room` does: as many as these commits took ring blocks. It makes the device calls of these
-    /// steps alone, and at each moment the crash image opens as between them.
+    /// the running transaction if that is locked without open handles, after checkpoint rounds if the ring lacks room. If it sealed one, it
+    /// then takes checkpoint turns ahead of need, as `keep_room` does: as many as these commits took ring blocks. It makes the device calls
+    /// of these steps alone, and at each moment the crash image opens as between them.
     ///
     /// # Errors
     ///
-    /// `Aborted`, `Device`, `Memory`. What was sealed and committed stays so. `Memory` is for the seal, and comes before the first
-    /// device call, so nothing is done. (The contract also allows it after the commit under way, with the transaction as it was.)
+    /// `Aborted`, `Device`, `Memory`. What was sealed and committed stays so. `Device` may also come of a turn ahead of need, when all is
+    /// committed: `mark` says so. `Memory` is for the seal, and comes before the first device call, so nothing is done. (The contract also
+    /// allows it after the commit under way, with the transaction as it was.)
     /// Source: fs/jbd2/journal.c by behaviour (`jbd2_journal_flush` up to its checkpoint).
     pub fn commit_all(&mut self) -> Result<Tid, JournalError>
         ensures mark { IfOk result (λ tid. tid ≡ self.new.journal.front.mark) }
@@ -92,10 +93,10 @@ impl<D: Device, R: Record> Journal<D, R> {
         Ok(self.mark())
     }
 
-    /// Takes so many checkpoint turns, or fewer: each only while a round is due, since one is under way or transactions that are not
-    /// released take at least half of the ring, or 640 of its blocks. Whoever takes commit turns makes room ahead of need by it: after each
-    /// commit, as many turns as the commit had. It takes no commit step, and leaves handles and credits. It makes the device calls of its
-    /// rounds alone, and at each moment the crash image opens as between them.
+    /// Takes so many checkpoint turns, or fewer: each only while a round is due, since one is under way or committed transactions that are
+    /// not released take at least half of the ring, or 640 of its blocks. Whoever takes commit turns makes room ahead of need by it: after
+    /// each commit, as many turns as the commit had. It takes no commit step, and leaves handles and credits. It makes the device calls of
+    /// its rounds alone, and at each moment the crash image opens as between them.
     ///
     /// # Errors
     ///

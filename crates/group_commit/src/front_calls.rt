@@ -118,7 +118,7 @@ pub trait FrontCalls<D: Device> {
     ///
     /// # Errors
     ///
-    /// Nothing changes. Those of `reserve`, then those of `try_join`.
+    /// Nothing changes. Those of `reserve`, then those of `try_join` but for `NoCredit`.
     /// Source: journalling.rst (`journal_start`).
     final fn try_start(&mut self, n: u64) -> Result<Handle, JournalError>
         ensures ok { IfOk result (λ handle. Starts D.state n (known self.old) (known self.new)

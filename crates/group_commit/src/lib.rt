@@ -5,7 +5,8 @@
 //! the front (`journal_front`) turns handles and writes into batches; `journal_steps` has the steps that need both. `recovery` opens
 //! the log that a journal is made of, and what a crash leaves. The caller chooses how sealed transactions are recorded (`Record`).
 //!
-//! Only the journal has its front: credits and handles come of its calls alone, and only a turn or a close seals a transaction.
+//! Only the journal has its front, until `into_sides` hands that out: credits and handles come of its calls alone, and only a turn or a
+//! close seals a transaction.
 #![tactic(auto)]
 
 mod ahead;

@@ -123,8 +123,8 @@ fn write_two_blocks<D: Device + Drop>(
     journal.write(handle, BlockNo(10), &twos)
 }
 
-/// Commits a ticket's transaction by commit turns, one device call each; first it makes room in the log if that is too full. The
-/// transaction then survives every crash. Whoever has the receipt may rely on that.
+/// Commits a ticket's transaction, and takes a part of a checkpoint round where one is due. The transaction then survives every crash.
+/// Whoever has the receipt may rely on that.
 fn commit<D: Device + Drop>(journal: &mut Journal<D>, ticket: Ticket) -> Result<Receipt> {
     match journal.commit(ticket) {
         Ok(receipt) => Ok(receipt),

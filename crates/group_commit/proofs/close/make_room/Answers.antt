@@ -32,7 +32,7 @@ returns-then-has_room-clause-rounds g c =
 pub returns-clause-rounds : goal.returns-clause-rounds
 returns-clause-rounds g c =
     room-wanted g.D.Device.state c.release_all.result _ _ _ c.in_ok-finish_commit.ensures.ok c.in_ok-finish_commit.ensures.idle
-    c.in_ok-finish_commit.ensures.rounds (λ has. true≢false (sym (c.has_room.ensures.1 has) ∙ c.if-has_room.false))
+    c.in_ok-finish_commit.ensures.rounds (λ has. true≢false (sym (c.has_room.ensures.1 has) ∙ c.if-has_room.false)) c.release_all.ensures.ok
 
 pub returns-clause-calls : goal.returns-clause-calls
 returns-clause-calls g c = calls-after g.D.Device.state _ _ _ c.finish_commit.ensures.calls c.release_all.ensures.calls
