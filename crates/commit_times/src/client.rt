@@ -67,8 +67,8 @@ impl<'s, J: JournalName, D: Device, C> Shared<'s, J, D, C> {
         }
     }
 
-    /// Waits until no other client makes a change. A change takes a few microseconds, but each of its calls takes the journal's lock, and a
-    /// thread that finds it taken soon sleeps: a sleep and a wake take longer than all changes of a commit in sequence.
+    /// Waits until no other client makes a change. A change takes a few microseconds, but each of its calls takes the journal's lock. A
+    /// thread that finds it taken soon sleeps, and a sleep with its wake takes longer than all changes of a commit one after the other.
     pub(crate) fn alone<W: Wait>(&self, rt: &W) -> MutexGuard<'_, ()> {
         for _ in 0..LOOKS {
             if let Some(guard) = self.changes.try_lock() {

@@ -153,7 +153,7 @@ impl<D: Device, R: Record> Journal<D, R> {
 
     /// Reads one block of the home area: the running transaction's copy, else the copy being committed, else the newest committed copy,
     /// else what home reads. The read becomes a step of the handle's transaction and takes no credit. The caller isolates handles from
-    /// each other. Only a block without a copy, or whose copy is home for good, needs a device call.
+    /// each other. Only a block without a copy, or whose copy was released, needs a device call.
     ///
     /// # Errors
     ///
@@ -443,17 +443,16 @@ impl<D: Device, R: Record> Journal<D, R> {
         Ok(())
     }
 
-    /// Closes the journal: seals the running transaction where a handle has joined it, commits everything and writes it home,
-    /// and closes the log. The next opening finds a clean log, and writes nothing. No handle may be open.
+    /// Closes the journal: seals the running transaction if a handle has joined it, commits everything and writes it home, and closes the
+    /// log. The next opening finds a clean log, and writes nothing. No handle may be open. It makes the device calls of its turns, and a
+    /// write and a flush if the log is not clean. At each moment the crash image opens as between them.
     ///
     /// # Errors
     ///
-    /// The journal's parts come back: what was sealed and committed by then stays so, and every crash image of the device opens as they
-    /// say. `Aborted` after a device failure: nothing was done. `Device` where the device failed. `Memory` where it ran out for the seal of
-    /// the running transaction, which is then not sealed: all memory that the close takes it asks for before its first call of the device,
-    /// so that nothing was done. (The contract leaves room for a refusal after the commit that was under way, where all before it is
-    /// committed. A whole ring has room for it, since it needs at most a quarter.) It makes the device calls of its turns, and a write and a
-    /// flush where the log is not clean. At each moment of it a crash image opens as between them.
+    /// The journal's parts come back. What was sealed and committed stays so, and every crash image of the device opens as they say.
+    /// `Aborted`: the device had failed before, and nothing was done. `Device`: it fails now. `Memory`: it ran out for the seal of the running
+    /// transaction. The close requests all its memory before its first device call, so nothing was done. (The contract also allows this
+    /// refusal after the commit under way.)
     /// Source: fs/jbd2/journal.c by behaviour (`jbd2_journal_destroy`).
     pub fn close(self) -> Result<Parts<D, R>, (Parts<D, R>, JournalError)>
         requires { self.journal.front.open_handles ≡ [] }

@@ -1,4 +1,4 @@
-//! The commands of `jbench` on a log alone, over devices.
+//! Formats, dumps, shows, recovers and upgrades a log, over a device.
 //!
 //! `logs` has `format`, `dump`, `recover` and `upgrade`; `show` has `show`, with the `fields` of a superblock and the names of `features`.
 //! `objects` has the parts of what is printed as JSON. `overwriting` describes a log that will be overwritten, `reasons` explains a refusal,

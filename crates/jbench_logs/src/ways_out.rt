@@ -1,4 +1,4 @@
-//! What an owner can do about a refused log, by the content of the superblock's place.
+//! Advises the owner of a refused log, by the bytes in the superblock's place.
 ghost use Rattle.std.specs.Prelude.{◌≡◌, ◌≤◌, length};
 ghost use Rattle.block_device.specs.State.{Stays};
 

@@ -1,4 +1,4 @@
-//! Parses the program's words, and answers those that name no work.
+//! Parses the program's words, and answers `--help`, `--version` and bad words.
 use crate::fault::{self, Fault, Status};
 use crate::reading::words_of;
 use crate::wanted::fault_of;

@@ -43,7 +43,7 @@ impl Block {
     pub fn copy_of(alloc: Global, bytes: &[u8]) -> Result<Self, AllocError>
         ensures { IfOk result (λ block. block ≡ bytes.now) }
     {
-        Block::new(bytes.to_vec(alloc)?)
+        Block::new(Vec::from_slice(alloc, bytes)?)
     }
 
     /// A block that shares these bytes, without new memory.

@@ -135,7 +135,7 @@ pub fn hand_out<R: Record>(
 }
 
 /// Reads the bytes that `read` would give, without a handle. It records no step, makes no transaction and takes no memory. Only a block
-/// without a copy, or whose copy is home for good, needs a device call.
+/// without a copy, or whose copy was released, needs a device call.
 ///
 /// # Errors
 ///

@@ -62,7 +62,7 @@ fn closed(alloc: Global) -> Result<(Option<JournalError>, (usize, u64, u64)), Jo
     }
 }
 
-/// Prints the result of the close, if there was memory to come to it.
+/// Prints the result of the close, unless an earlier request for memory was refused.
 #[test]
 fn a_close_takes_its_memory_before_its_first_call(rt: HostRuntime) -> Result<(), Fail> {
     let (Ok(before), Ok((refusal, left))) = (unclosed(rt.alloc()), closed(rt.alloc())) else {

@@ -1,4 +1,4 @@
-//! Tests that no row can stand for. They call public functions alone, so that no other library is proved again for them.
+//! Tests that can't be rows of data. They call public functions alone, so that no other library is proved again for them.
 #![tactic(auto)]
 
 #[cfg(test)]

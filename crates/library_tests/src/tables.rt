@@ -19,7 +19,7 @@ fn covered(table: &RevokeTable) -> [bool; 4] {
     ]
 }
 
-/// Of several revokes of a block the greatest counts, in any order.
+/// Of several revokes of a block only the one of the greatest transaction counts, in any order.
 #[test]
 fn the_greatest_revoke_counts(rt: HostRuntime) -> Result<(), Fail> {
     let mut table = RevokeTable::new(rt.alloc());
@@ -75,7 +75,8 @@ fn hand_over(table: &mut LastEffects, batch: &Batch) -> Result<(), JournalError>
     Ok(())
 }
 
-/// Block 7 by what is committed below transaction 2, block 8 below 3 and 4, and block 9 below 2, 3 and 4.
+/// Whether a block is left to home if the transactions below a number are committed: block 7 below 2, block 8 below 3 and 4, and block 9
+/// below 2, 3 and 4.
 fn left_to_home(table: &LastEffects) -> [bool; 6] {
     [
         table.is_left_to_home(BlockNo(7), Tid(2)),

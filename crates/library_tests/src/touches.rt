@@ -18,7 +18,7 @@ const TOUCHES: [(u64, u64, u8, bool); 6] = [
     (2, 5, 0, false),
 ];
 
-/// Makes the touches by handles with one credit left. Returns whether exactly the expected ones are first.
+/// Makes the touches, each by a handle with one credit left. Returns whether each is a first touch exactly where the table says so.
 fn touch_all(transaction: &mut Transaction<Vec<Sealed>>) -> Result<bool, JournalError>
     requires { transaction.old.locked ≡ false }
 {
@@ -98,7 +98,7 @@ fn the_place_stays_and_the_last_operation_decides(rt: HostRuntime) -> Result<(),
     Ok(())
 }
 
-/// How many hold the bytes of a block's copy.
+/// How many references the bytes of a block's copy have.
 fn holders(entry: Option<&Entry>) -> Option<usize> {
     match entry? {
         Entry::Copy(copy) => Some(copy.holders()),
@@ -106,8 +106,8 @@ fn holders(entry: Option<&Entry>) -> Option<usize> {
     }
 }
 
-/// How many hold block 7's bytes after a write, after the entries are handed over, after the seal, after those entries are dropped, and
-/// after the record is; and the counts of the record.
+/// How many references block 7's bytes have: after a write, after the entries are handed over, after the seal, after these entries are
+/// dropped, and after the record is dropped too. Then the counts of the record.
 fn held_by_turns(
     alloc: Global,
     transaction: &mut Transaction<Vec<Sealed>>,
@@ -152,7 +152,7 @@ fn write_often<R: Record>(transaction: &mut Transaction<R>) -> Result<(), Journa
     Ok(())
 }
 
-/// The number of entries, what block 7 shows, and how many hold those bytes.
+/// The number of entries, block 7's first byte, and how many references its bytes have.
 type Left = (usize, Option<u8>, Option<usize>);
 
 fn left<R: Record>(transaction: &Transaction<R>) -> Left {
@@ -160,7 +160,7 @@ fn left<R: Record>(transaction: &Transaction<R>) -> Left {
     (transaction.len(), shown(entry), holders(entry))
 }
 
-/// Writes block 7 often, and seals. Returns what is left of it before the seal, and the record.
+/// Writes block 7 often, and seals. Returns `left` before the seal, and the record.
 fn written_often<R: Record>(
     alloc: Global,
     transaction: &mut Transaction<R>,
@@ -199,7 +199,7 @@ fn recorded(record: &[Sealed]) -> (Option<(u32, usize, usize)>, bool) {
     (counts(record), are_writes)
 }
 
-/// What is left before and after the seal of many writes, and what the record has.
+/// `left` before and after the seal of many writes; the counts of the record, and whether its steps are these writes.
 fn recorded_often(
     alloc: Global,
     transaction: &mut Transaction<Vec<Sealed>>,
@@ -222,7 +222,7 @@ fn a_record_of_data_keeps_each_write(rt: HostRuntime) -> Result<(), Fail> {
     Ok(())
 }
 
-/// The same, in a record for contracts alone.
+/// `left` before and after the seal, with a record that keeps no steps as data.
 fn unrecorded_often(
     alloc: Global,
     transaction: &mut Transaction<Unrecorded>,

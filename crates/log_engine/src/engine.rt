@@ -166,8 +166,8 @@ impl<D: Device> Engine<D> {
         self.ledger.start
     }
 
-    /// Whether a checkpoint round is due: one is under way, or transactions that are not released take at least half of the ring, or 640
-    /// of its blocks.
+    /// Whether a checkpoint round is due: one is under way, or committed transactions that are not released take at least half of the ring,
+    /// or 640 of its blocks.
     pub fn is_round_due(&self) -> bool
         ensures { IsTrue result ↔ IsRoundDue self.now.engine }
     {

@@ -193,7 +193,7 @@ impl Finder {
         Ok(self.parse(home_blocks, sequence, log.blocks() - position - 1))
     }
 
-    /// What the block is, with `behind` blocks after it in the ring.
+    /// Finds the kind of the block, with `behind` blocks after it in the ring.
     fn parse(&mut self, home_blocks: Option<u64>, sequence: u64, behind: u64) -> Found
         ensures says { Says self.old.layout (count_of self.old.layout home_blocks) sequence behind self.old.block self.new result }
         ensures block { self.new.block ≡ self.old.block }

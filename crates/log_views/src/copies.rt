@@ -31,7 +31,7 @@ impl Copy {
     }
 }
 
-/// The copy at this place of the device's log, if a complete transaction has one there; the contract speaks of a copy that is found.
+/// The copy at this place of the device's log, if a complete transaction has one there. The contract covers a copy that is found.
 /// Blocks after the complete transactions are not examined, and nothing is written.
 ///
 /// # Errors

@@ -1,4 +1,4 @@
-//! The task that reads requests, and answers those that want no commit.
+//! Reads requests in a task, and answers those that want no commit.
 use crate::answering::{answer, volume_bytes};
 use crate::done::Done;
 use crate::export::{Export, Volume};

@@ -18,8 +18,8 @@ const MOST_BYTES: usize = 4096;
 
 /// Makes an empty log of `maxlen` blocks, 17 to 1,048,576, the superblock among them, with this UUID. All of its blocks after the
 /// superblock become zeros; the rest of the area after the log is made durable as it reads, and home isn't touched. The superblock is
-/// written once the zeros are durable: so a crash within this call, or after a device failure, leaves in block 0 what might have stood
-/// there before, or the whole empty log; what the ring had may be gone. It makes one write for each block, two flushes, and no other call.
+/// written once the zeros are durable. So a crash within this call, or after a device failure, leaves the whole empty log, or block 0 as
+/// a crash before could have left it; the ring's blocks may be zeros then. It makes one write for each block, two flushes, and no other call.
 ///
 /// # Errors
 ///

@@ -22,14 +22,14 @@ pub enum Fault {
 
 type FaultyDevice = FailOnce<StopAt<MemDevice>>;
 
-/// What a closed journal leaves.
+/// A journal's parts after its close.
 #[derive(Drop)]
 pub struct Closed {
     pub answer: String,
     pub sealed: Vec<Sealed>,
     /// How many sealed transactions are committed.
     pub committed: u64,
-    /// With its cache.
+    /// The device, with its cache.
     pub device: MemDevice,
     /// The home blocks that handles wrote.
     pub named: NamedBlocks,

@@ -73,7 +73,7 @@ fn add_run<J: Runner>(
     }
 }
 
-/// Adds an ending from these lines; the call failed if an operation was refused for that.
+/// Adds an ending from these lines. The call failed if an operation was refused `Device`.
 fn add_lines(
     alloc: Global,
     lines: &str,

@@ -1,5 +1,5 @@
-//! Wrong journals: this journal over a memory disk that reorders some calls, or silently loses one. The disk then holds what a journal
-//! would leave that made its calls in that order, or ignored a failed call.
+//! Wrong journals: this journal over a memory disk that reorders some calls, or silently loses one. The disk then holds the same as under a
+//! journal that makes its calls in that order, or ignores a failed call.
 ghost use Rattle.std.specs.Prelude.{◌≡◌};
 
 use block_device::{Device, DeviceFault, FailOnce, MemDevice, StopAt};

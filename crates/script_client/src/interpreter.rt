@@ -163,8 +163,8 @@ impl<'a, D: Device + Drop, H: HomeFact> Interpreter<'a, D, H> {
         }
     }
 
-    /// Runs one of its operations as `perform` does. Where `makes_room` tells so, one for which the ring has no room is run once more, after
-    /// checkpoint turns up to the first that has nothing to do; and where such a turn is refused it came to that.
+    /// Runs one of its operations as `perform` does. With `makes_room`, an operation for which the ring has no room is run once more, after
+    /// checkpoint turns up to the first that has nothing to do. If such a turn is refused, its refusal is the outcome.
     pub fn perform_as(&mut self, operation: &Operation, makes_room: bool) -> Outcome
         requires { Contains self.old.client.operations operation.now }
         ensures done { HasDoneAs makes_room D.state D.honest operation.now result (record { client = self.old.client; names = self.old.slots }) (record { client = self.new.client; names = self.new.slots }) }

@@ -1,6 +1,6 @@
-//! Serves a row with a stop at each device write, and opens crash images. The result is `torn`, whether some image is not home after a
-//! number of changes; `lost`, whether some lacks a change that a commit confirmed; and `enough`, whether there were at least as many stops
-//! as such homes.
+//! Serves a row with a stop at each device write, and opens crash images. Each image has to open to home after the first changes, however
+//! many. The result is `torn`, whether some image does not; `lost`, whether some image lacks a change that a commit confirmed; and
+//! `enough`, whether there were at least as many stops as such homes.
 use crate::connection::{home_of, new_log, serve_on};
 use crate::given::Given;
 use block_device::{MemDevice, StopAt};

@@ -34,7 +34,7 @@ const SHARED: u64 = 40;
 /// The first of four blocks; each is written directly by one thread.
 const DIRECT: u64 = 50;
 
-/// Takes a commit turn, or a checkpoint turn if the log is full. False if refused for good.
+/// Takes a commit turn, or a checkpoint turn if the log is full. False if it is refused otherwise.
 fn take_turn<J: JournalName, D: Device, K: Record, R: Wait>(
     rt: &R,
     journal: &Journal<J, D, K>,

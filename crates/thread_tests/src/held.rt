@@ -21,7 +21,7 @@ const LOOKS: u32 = 2_000_000;
 /// Yields, so that another thread comes to wait for the engine's lock.
 const PAUSES: u32 = 10_000;
 
-/// Looks until the word is not 0; whether it came to that.
+/// Looks until the word is not 0. False if it stayed 0.
 fn is_set(word: &AtomicU64) -> bool {
     for _ in 0..LOOKS {
         if word.load(Ordering::SeqCst) != 0 {
@@ -331,8 +331,8 @@ fn is_overtaken<R: Threads + Wait + Abort + Sync>(
     Ok(())
 }
 
-/// The handle would wait for the held write, and the gate would give up, in three cases: one lock for front and engine; reads that always
-/// take both locks; calls that wait for the engine's lock while they hold the front's.
+/// The handle would wait for the held write, and the gate would give up, with one lock for front and engine. So would it if reads always
+/// took both locks, or if a call held the front's lock while it waited for the engine's.
 #[test]
 fn a_handle_writes_while_a_commit_is_held(rt: HostRuntime) -> Result<(), Fail> {
     is_overtaken(&rt, rt.alloc(), Area::Log)?;

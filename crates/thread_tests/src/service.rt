@@ -62,7 +62,7 @@ fn two_clients(alloc: Global) -> Result<Vec<Vec<HandlePlan>>, AllocError> {
     Ok(plans)
 }
 
-/// A handle writes two blocks of its client's; every other handle is waited for.
+/// Each handle writes two blocks of its client; every other handle is waited for.
 fn many_clients(
     alloc: Global,
     clients: u64,
@@ -326,7 +326,7 @@ fn opened_left(alloc: Global, device: MemDevice) -> Result<u64, JournalError> {
     Ok(u64::from(opened(alloc, device)?.report().ends_at))
 }
 
-/// The first failing call for which that is not so, if the opening does not fail.
+/// The first failing call for which `fails_well` is false, if the opening does not fail.
 fn first_bad<R: Threads + Wait + Sync>(
     rt: &R,
     alloc: Global,

@@ -120,7 +120,7 @@ fn write_at_once<J: JournalName + Send + Sync, D: Device + Send, R: Threads + Wa
     }
 }
 
-/// Whether both tickets' transactions are committed, and are one; the record confirms both receipts.
+/// Whether both tickets are of one committed transaction. The record confirms both receipts.
 fn both_stand<J: JournalName, D: Device, R: Wait>(
     rt: &R,
     journal: &Journal<J, D>,
@@ -138,7 +138,7 @@ fn both_stand<J: JournalName, D: Device, R: Wait>(
     }
 }
 
-/// Whether this many credits can be had.
+/// Whether this many credits are granted.
 fn all_are_left<J: JournalName>(
     journal: &Journal<J, MemDevice>,
     seat: &mut Seat<J>,
@@ -159,7 +159,7 @@ const ALL: u64 = 251;
 /// The credits that the entries of both threads hold.
 const HELD: u64 = 2 * HANDLES;
 
-/// A ticket's status, the tally, and whether one credit too many, and exactly the free ones, can be had.
+/// A ticket's status, the tally, and whether one credit more than the free ones is granted, and whether the free ones are.
 fn told_before<J: JournalName, R: Wait>(
     rt: &R,
     journal: &Journal<J, MemDevice>,
@@ -177,7 +177,7 @@ fn told_before<J: JournalName, R: Wait>(
 }
 
 /// Commits the transaction of both tickets. Returns whether that was done, whether all credits are free, the second ticket's status, and
-/// whether both stand.
+/// the answer of `both_stand`.
 fn told_after<J: JournalName, R: Wait>(
     rt: &R,
     journal: &Journal<J, MemDevice>,

@@ -104,7 +104,7 @@ fn go_through<J: JournalName, D: Device, R: Wait>(
     }
 }
 
-/// Takes commit turns until the word is not 0; whether it came to that.
+/// Takes commit turns until the word is not 0. False if it stayed 0.
 fn take_turns<J: JournalName, D: Device, R: Wait>(
     rt: &R,
     journal: &Journal<J, D>,
@@ -121,7 +121,7 @@ fn take_turns<J: JournalName, D: Device, R: Wait>(
     false
 }
 
-/// `go_through`, and then sets the word.
+/// Calls `go_through`, and then sets the word.
 fn go_through_and_notify<J: JournalName, D: Device, R: Wait>(
     rt: &R,
     journal: &Journal<J, D>,

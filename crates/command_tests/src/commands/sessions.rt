@@ -1,4 +1,4 @@
-//! Commands in turn over the same files: what each prints, and what the files then hold.
+//! Commands in turn over the same files: the output of each, and the bytes that the files then hold.
 use super::{Step, byte_at, first_other};
 use std::fs;
 use std::test::Fail;

@@ -168,8 +168,8 @@ fn add_covered(
     Ok(told.push('\n')?)
 }
 
-/// Covered copies. Given: a log, as for `chains`. Found: the home blocks that a revoke covers in the texts from each on, and after the
-/// last.
+/// Covered copies. Given: a log, as for `chains`. Found: for each text, the home blocks that a revoke in it or a later text covers; then a
+/// line for the place after the last text.
 pub fn covered_copies(alloc: Global, given: &str) -> Result<String, RowError> {
     let (number, log) = numbered_log(alloc, given)?;
     let texts = texts_of(alloc, &log, number)?;

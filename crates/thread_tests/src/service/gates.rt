@@ -6,7 +6,7 @@ use volume_service::{Gate, Point};
 /// How often a gate looks before it gives up.
 const LOOKS: u32 = 2_000_000;
 
-/// Looks until the word is at least that; whether it came to that.
+/// Looks until the word is at least this number. False if it stayed below.
 fn comes_to(word: &AtomicU64, least: u64) -> bool {
     for _ in 0..LOOKS {
         if word.load(Ordering::SeqCst) >= least {
@@ -32,7 +32,7 @@ impl Meeting {
         }
     }
 
-    /// Whether that never happened.
+    /// Whether a second client never came.
     pub(crate) fn failed(&self) -> bool {
         self.given_up.load(Ordering::SeqCst) != 0
     }
