@@ -38,8 +38,8 @@ pub trait Device {
     /// What each block reads, what a crash may leave, earlier disks, failures and calls.
     ghost state: { Self → DeviceState };
 
-    /// Each read so far gave what the disk reads. Over files this may be lost for good, if others write them or the
-    /// medium forgets.
+    /// Each read so far gave what the disk reads. Over files this ends for good once others write them or the medium
+    /// loses bytes.
     ghost honest: { Self → Type 0 };
 
     /// Reads block `n` of an area into a buffer of one block.

@@ -5,7 +5,7 @@ ghost use Rattle.block_device.specs.State.{one_more_call, one_more_fault};
 use crate::{Device, DeviceFault};
 use journal_model::Area;
 
-/// A device that crashes at one of its writes: that one enters the cache and answers a fault, and later calls answer a
+/// A device that crashes at one of its writes. That write enters the cache and answers a fault. Later calls answer a
 /// fault and do nothing.
 #[derive(Drop)]
 pub struct StopAt<D> {

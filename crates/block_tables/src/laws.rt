@@ -25,7 +25,7 @@ pub fn covered_is_the_definition()
     ensures { (first : ℕ) (texts : List Text) (i b : ℕ) → Covers (revokes_of first texts) b (first + i) ↔ IsCovered texts i b }
 {}
 
-/// What goes home by both tables of a chain is the newest live copy by definition; a block without a copy that goes home has no live copy.
+/// The copy that both tables of a chain send home is the newest live copy by definition. A block of which they send none has no live copy.
 pub fn what_goes_home_is_the_newest_live_copy()
     ensures newest { (first : ℕ) (texts : List Text) (b i k : ℕ) (bytes : List ℕ) →
         GoesHome first texts b i k bytes → IsNewest texts b bytes }

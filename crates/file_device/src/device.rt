@@ -1,6 +1,6 @@
 //! A device over files, and what is assumed of them.
 //!
-//! Contracts see its state as replayed from its calls on the files and their answers, a list in proofs alone (`FileState`, in
+//! Contracts compute its state from its calls on the files and their answers. That list exists in proofs alone (`FileState`, in
 //! `specs/Files.antt`). The clauses on the disk hold of real files under premises that no proof shows:
 //!
 //! - Each function of `calls` makes the call that it notes, on that file, and notes its answer. One that noted a sync without a sync, or a

@@ -155,8 +155,8 @@ fn log_in<C: Contents>(alloc: Global, contents: C, file: File) -> io::Result<Fil
     Ok(FileDevice::new(alloc, contents, size, file, None)?)
 }
 
-/// A device over a log's two files, whose assumed contents are `contents`. The block size is that of `open_log`. What an opening relies on
-/// in the log is rewritten as it reads, and synced: after a failed sync it may be in the system's memory alone.
+/// A device over a log's two files, whose assumed contents are `contents`. The block size is that of `open_log`. The part of the log that
+/// an opening relies on is rewritten as it reads, and synced: after a failed sync it may be in the system's memory alone.
 ///
 /// # Errors
 ///

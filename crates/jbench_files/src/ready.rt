@@ -28,8 +28,8 @@ pub(crate) struct ReadyLog {
 }
 
 impl ReadyLog {
-    /// A log to open. What an opening relies on is rewritten as it reads, and synced: after a failed sync it may be in the system's memory
-    /// alone.
+    /// A log to open. The part that an opening relies on is rewritten as it reads, and synced: after a failed sync it may be in the
+    /// system's memory alone.
     ///
     /// # Errors
     ///

@@ -93,7 +93,7 @@ fn count_home<D: Device>(device: &mut D, examined: Examined) -> Result<u64, Jour
     count_copies(device, &log, transactions, &tables, &mut finder)
 }
 
-/// How many copies go home by the tables: those that `replay` would write. It takes no memory and writes nothing.
+/// Counts the copies that `replay` would write home, by the tables. It takes no memory and writes nothing.
 ///
 /// # Errors
 ///

@@ -16,8 +16,8 @@ use std::alloc::Global;
 use std::io::Write;
 
 /// Runs a script once for each device call that it makes. That call fails and does nothing, the script goes on, and the device stops at the
-/// end. Each choice of the last four writes gives an image, which is opened and judged. What is not right is printed on `err`: the options
-/// by which `run` shows it, the record, and what the opening found.
+/// end. Each choice of the last four writes gives an image, which is opened and judged. Of a wrong opening `err` gets the options by which
+/// `run` shows it, the record, and what was found.
 ///
 /// # Errors
 ///

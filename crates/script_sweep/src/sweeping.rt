@@ -17,8 +17,8 @@ use std::alloc::Global;
 use std::io::Write;
 
 /// Runs a script with a stop at each of its writes. Each choice of the last four writes gives an image, which is opened. That opening is
-/// stopped at each of its writes in the same way, and its crash images are opened. Each opening is judged. What is not right is printed on
-/// `err`: the options by which `run` shows it, the record, and what the opening found.
+/// stopped at each of its writes in the same way, and its crash images are opened. Each opening is judged. Of a wrong one `err` gets the
+/// options by which `run` shows it, the record, and what was found.
 ///
 /// # Errors
 ///
