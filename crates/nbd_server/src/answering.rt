@@ -31,8 +31,8 @@ pub(crate) fn volume_bytes<J: JournalName, D: Device, R: Record>(
         .saturating_mul(session.block_size() as u64)
 }
 
-/// Answers a request. A write's bytes come next in the input, and are read whole before a handle starts. For a refused request no handle
-/// starts, and its bytes are skipped.
+/// Answers a request. A write's bytes come next in the input, and are read whole into `room` before a handle starts; what was there is
+/// lost, and the memory stays. For a refused request no handle starts, and its bytes are skipped.
 ///
 /// # Errors
 ///
@@ -44,6 +44,7 @@ pub fn answer<J: JournalName, D: Device, R: Record, I: Read, W: Wait>(
     read_only: bool,
     stopped: &mut Stopped,
     input: &mut I,
+    room: &mut Vec<u8>,
     request: &Request,
 ) -> io::Result<Answer>
     ensures answered { IfOk result (λ answer. IsAnswered D.state D.honest J.name.shape J.name.capacity read_only request.now stopped.new (session.new ≡ session.old) answer) }
@@ -54,11 +55,12 @@ pub fn answer<J: JournalName, D: Device, R: Record, I: Read, W: Wait>(
         return refuse(input, request, error);
     }
     if request.command == WRITE {
-        let Ok(mut bytes) = vec![in alloc; 0u8; request.length as usize] else {
+        if room.resize(request.length as usize, 0).is_err() {
             return refuse(input, request, ENOMEM);
-        };
-        input.read_exact(bytes.as_mut_slice())?;
-        return Ok(perform(rt, alloc, session, stopped, request, &bytes));
+        }
+        input.read_exact(room.as_mut_slice())?;
+        let bytes = room.as_slice();
+        return Ok(perform(rt, alloc, session, stopped, request, bytes));
     }
     Ok(perform(rt, alloc, session, stopped, request, &[]))
 }

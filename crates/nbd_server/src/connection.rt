@@ -1,9 +1,9 @@
-//! Reads requests in a task, and answers those that want no commit.
+//! Reads requests in a task. Answers those that want no commit, or hands the answers on.
 use crate::answering::{answer, volume_bytes};
 use crate::done::Done;
 use crate::export::{Export, Volume};
 use crate::handshake::begin;
-use crate::replies::{Due, Output};
+use crate::replies::{Answer, Due, Output};
 use block_device::Device;
 use byte_volume::Stopped;
 use crossbeam_channel::Sender;
@@ -24,6 +24,8 @@ pub(crate) struct Connection<'m, I: Read + Drop, O: Write + Drop> {
     pub(crate) out: &'m Output<O>,
     /// The flusher's end of owed answers.
     pub(crate) owed: Sender<Due>,
+    /// The sender's end of long answers.
+    pub(crate) long: Sender<Answer>,
 }
 
 impl<I: Read + Drop, O: Write + Drop> Connection<'_, I, O> {
@@ -56,17 +58,18 @@ impl<I: Read + Drop, O: Write + Drop> Connection<'_, I, O> {
         if !self.shake_hands(rt, session)? {
             return Ok(());
         }
+        let mut room = Vec::new(self.alloc);
         for _ in rt.forever() {
             let Some(request) = next_request(&mut self.input)? else {
                 return Ok(());
             };
             *requests = requests.saturating_add(1);
             let (alloc, read_only) = (self.alloc, self.export.read_only);
-            let input = &mut self.input;
-            let given = answer(rt, alloc, session, read_only, stopped, input, &request)?;
-            if let Some(due) = self.out.give(rt, given)? {
-                self.hand_on(rt, due)?;
-            }
+            let (input, room) = (&mut self.input, &mut room);
+            let given = answer(
+                rt, alloc, session, read_only, stopped, input, room, &request,
+            )?;
+            self.give(rt, given)?;
         }
         unreachable!()
     }
@@ -91,12 +94,23 @@ impl<I: Read + Drop, O: Write + Drop> Connection<'_, I, O> {
         out.shake_hands(rt, alloc, &mut self.input, &volume)
     }
 
-    /// Hands an owed answer to the flusher.
-    fn hand_on<W: Wait>(&self, rt: &W, due: Due) -> io::Result<()> {
-        match self.owed.send(rt, due) {
-            Ok(()) => Ok(()),
-            Err(_) => Err(io::Error::from(ErrorKind::BrokenPipe)),
+    /// Gives an answer, or hands it on: an owed one to the flusher, a long one to the sender.
+    fn give<W: Wait>(&self, rt: &W, answer: Answer) -> io::Result<()> {
+        if answer.is_long() {
+            return hand_on(rt, &self.long, answer);
         }
+        match self.out.give(rt, answer)? {
+            Some(due) => hand_on(rt, &self.owed, due),
+            None => Ok(()),
+        }
+    }
+}
+
+/// Hands an answer to another task, which has ended if it cannot.
+fn hand_on<T: Drop, W: Wait>(rt: &W, to: &Sender<T>, answer: T) -> io::Result<()> {
+    match to.send(rt, answer) {
+        Ok(()) => Ok(()),
+        Err(_) => Err(io::Error::from(ErrorKind::BrokenPipe)),
     }
 }
 

@@ -1,8 +1,8 @@
 //! A journal as a block device: NBD over one reader and one writer.
 //!
-//! `serving` runs a connection as two tasks: `connection` reads requests and answers those that want no commit, and `flusher` waits for
-//! commits and answers the others. `handshake` comes before the requests; `answering` performs one. `replies` has the answers and when each
-//! may be given, `export` what is served, and `done` how the connection went.
+//! `serving` runs a connection as three tasks: `connection` reads requests and answers those that want no commit, `flusher` waits for
+//! commits and answers the others, and `sender` sends long answers. `handshake` comes before the requests; `answering` performs one.
+//! `replies` has the answers and when each may be given, `export` what is served, and `done` how the connection went.
 #![tactic(auto)]
 
 mod answering;
@@ -12,6 +12,7 @@ mod export;
 mod flusher;
 mod handshake;
 mod replies;
+mod sender;
 mod serving;
 
 pub use answering::{answer, change, perform, read_reply};

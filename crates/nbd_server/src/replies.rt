@@ -20,6 +20,9 @@ use std::marker::Model;
 use std::sync::{Mutex, Wait};
 use volume_service::Session;
 
+/// An answer with this many bytes is long.
+const LONG_BYTES: usize = 65_536;
+
 /// An owed answer to a flush, or to a change with `FUA` that was made: it may come once all transactions up to a number are committed.
 #[derive(Debug, Drop)]
 pub struct Due {
@@ -162,6 +165,16 @@ pub enum Answer {
     Bytes(ReadReply),
     /// Given once a commit is done.
     Later(Due),
+}
+
+impl Answer {
+    /// Whether it has so many bytes that another task is to send it.
+    pub(crate) fn is_long(&self) -> bool {
+        match self {
+            Answer::Bytes(reply) => reply.bytes.len() >= LONG_BYTES,
+            _ => false,
+        }
+    }
 }
 
 /// The one output. An answer is written whole: no other thread's bytes come between.

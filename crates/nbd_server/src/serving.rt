@@ -8,6 +8,7 @@ use crate::done::Done;
 use crate::export::Export;
 use crate::flusher::Flusher;
 use crate::replies::Output;
+use crate::sender::LongAnswers;
 use block_device::Device;
 use crossbeam_channel::bounded;
 use journal_model::{JournalError, Tid};
@@ -21,11 +22,15 @@ use volume_service::{OpenGate, Session, Task, do_tasks};
 /// How many answers may be owed; a request that would owe one more waits.
 const MOST_OWED: usize = 1024;
 
-/// One of a connection's two tasks.
+/// How many long answers may wait to be sent; the next request waits for room.
+const MOST_LONG: usize = 2;
+
+/// One of a connection's tasks.
 #[derive(Drop)]
 enum Part<'m, I: Read + Drop, O: Write + Drop> {
     Connection(Connection<'m, I, O>),
     Flusher(Flusher<'m, O>),
+    LongAnswers(LongAnswers<'m, O>),
 }
 
 impl<D: Device, R: Record, I: Read + Drop, O: Write + Drop> Task<D, R, OpenGate>
@@ -38,6 +43,7 @@ impl<D: Device, R: Record, I: Read + Drop, O: Write + Drop> Task<D, R, OpenGate>
         match self {
             Part::Connection(connection) => connection.run(rt, session),
             Part::Flusher(flusher) => flusher.run(rt, session),
+            Part::LongAnswers(answers) => answers.run(rt),
         }
     }
 }
@@ -94,7 +100,7 @@ pub fn serve<
     })
 }
 
-/// The two tasks of a connection: one reads and answers requests, one gives the owed answers.
+/// The three tasks of a connection: one reads and answers requests, one gives the owed answers, one sends the long ones.
 fn parts<'m, I: Read + Drop, O: Write + Drop>(
     alloc: Global,
     export: Export<'m>,
@@ -102,25 +108,28 @@ fn parts<'m, I: Read + Drop, O: Write + Drop>(
     input: I,
     out: &'m Output<O>,
 ) -> Result<Vec<Part<'m, I, O>>, AllocError> {
-    let (to, from) = bounded(alloc, MOST_OWED)?;
-    let mut parts = Vec::with_capacity(alloc, 2)?;
+    let (to_flusher, owed) = bounded(alloc, MOST_OWED)?;
+    let (to_sender, long) = bounded(alloc, MOST_LONG)?;
+    let mut parts = Vec::with_capacity(alloc, 3)?;
     parts.push(Part::Connection(Connection {
         alloc,
         export,
         input,
         out,
-        owed: to,
+        owed: to_flusher,
+        long: to_sender,
     }))?;
     parts.push(Part::Flusher(Flusher {
         alloc,
         out,
-        owed: from,
+        owed,
         keep,
     }))?;
+    parts.push(Part::LongAnswers(LongAnswers { alloc, out, long }))?;
     Ok(parts)
 }
 
-/// How both tasks went.
+/// How the tasks went.
 fn together(alloc: Global, answers: Vec<Done>) -> Done {
     let mut all = Done {
         requests: 0,

@@ -10,15 +10,15 @@ returns-in-Some-clause-answered g c =
     IfOk-weaker c.refuse.result _ _ (λ given is. Refused c.in-Some.error c.in-Some.ensures.error refl is) c.refuse.ensures
 
 -- there is no memory for its bytes
-pub returns-in_default-vec-clause-answered : goal.returns-in_default-vec-clause-answered
-returns-in_default-vec-clause-answered g c =
-    IfOk-weaker c.refuse-in_default-vec.result _ _ (λ given is. Refused 12 (omega arith) refl is) c.refuse-in_default-vec.ensures
+pub returns-then-is_err-clause-answered : goal.returns-then-is_err-clause-answered
+returns-then-is_err-clause-answered g c =
+    IfOk-weaker c.refuse-then-is_err.result _ _ (λ given is. Refused 12 (omega arith) refl is) c.refuse-then-is_err.ensures
 
 -- its bytes came
 pub returns-then-request-eq-WRITE-clause-answered : goal.returns-then-request-eq-WRITE-clause-answered
 returns-then-request-eq-WRITE-clause-answered g c =
-    let long : length c.deref.result.now ≡ c.args.request.now.length = grind (arith, common_steps) in
-    Taken c.deref.result.now
+    let long : length c.as_slice-bytes.result.now ≡ c.args.request.now.length = grind (arith, common_steps) in
+    Taken c.as_slice-bytes.result.now
     (record { bytes = c.volume_bytes.result; within = c.volume_bytes.ensures; taken = c.in_default.ensures.takes })
     (λ is. long) c.perform.ensures.performed
 
