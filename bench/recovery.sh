@@ -16,7 +16,9 @@ mkdir -p "$folder"
 trap 'rm -f "$folder"/plain "$folder"/checked "$folder"/log "$folder"/home "$folder"/one.log "$folder"/one.home' EXIT
 cc -O2 -o "$folder/plain" "$top/bench/plain_recovery.c"
 cc -O2 -o "$folder/checked" "$top/bench/checked_recovery.c"
-"$top/jbench" --help >/dev/null
+# The script builds the program, and looks for changed sources each time: so it is not timed.
+"$top/jbench" build >/dev/null
+program=$top/crates/crash_bench/out/crash_bench
 
 # Microseconds that a command takes.
 timed() {
@@ -46,7 +48,7 @@ for size in 1024 4096; do
         python3 "$top/bench/make_full_log.py" "$folder/log" "$folder/home" "$blocks" "$size"
         plain=$(runs "$folder/plain")
         checked=$(runs "$folder/checked")
-        ours=$(runs "$top/jbench" recover)
+        ours=$(runs "$program" recover)
         echo "size=$size blocks=$blocks plain=${plain}us checked=${checked}us recover=${ours}us" \
             "checked/plain=$(ratio "$checked" "$plain") recover/plain=$(ratio "$ours" "$plain")"
     done
