@@ -1,4 +1,4 @@
-//! A client: one thread with a slot in the credit table, which makes one durable change after another.
+//! A client: one thread with a seat of its own, which makes one durable change after another.
 ghost use Rattle.std.specs.Prelude.{◌≤◌, IfOk};
 
 use crate::bench::Done;
@@ -85,12 +85,12 @@ impl<'s, J: JournalName, D: Device, C> Shared<'s, J, D, C> {
     }
 }
 
-/// A client's own state: its slot, its plan and its results.
+/// A client's own state: its seat, its plan and its results.
 #[derive(Drop)]
 pub(crate) struct Client<'s, J: JournalName, D: Device, C> {
     /// What all clients share.
     pub(crate) shared: &'s Shared<'s, J, D, C>,
-    /// Its own slot.
+    /// Its own seat.
     pub(crate) seat: Seat<J>,
     /// The blocks that each of its changes writes.
     pub(crate) plan: Plan,

@@ -168,7 +168,7 @@ fn work<
     Ok((done, u64::from(after.0.saturating_sub(before.0))))
 }
 
-/// Splits a caller's slot in the credit table into as many as wanted, of nearly equal allotments; fewer if no more can be split off.
+/// Splits a caller's seat into as many as wanted, of nearly equal allotments; fewer if no more can be split off.
 fn seats<J: JournalName, D: Device>(
     alloc: Global,
     journal: &Journal<J, D>,

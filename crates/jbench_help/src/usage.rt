@@ -651,8 +651,8 @@ these blocks held is lost. Where the ring has no room for a transaction a checkp
 end.
 
 With --threads N clients do so at once over one journal, one of them from each of the seeds 1 to N, each in a thread but the first. One
-that waits commits the transaction that all have joined by then, with no worker between; then it takes a part of a round once half of
-the ring may be taken. --transactions is for all of them together. A line more tells how many commits there were, and how many
+that waits first takes a part of a round, if half of the ring may be taken. Then it commits the transaction that all have joined by
+then, with no worker between. --transactions is for all of them together. A line more tells how many commits there were, and how many
 handles each had.
 
 It prints how many transactions and blocks were durable, in which time from the opened log to the last commit, and how many a second;

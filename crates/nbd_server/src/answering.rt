@@ -1,4 +1,4 @@
-//! Answers one request.
+//! Decides how a request is answered, and performs it.
 ghost use Rattle.std.specs.Prelude.{◌≡◌, ◌≢◌, ◌≤◌, ◌*◌, length, IfErr, IfOk, OnOk};
 ghost use Rattle.byte_volume.specs.Reading.{AddsRange};
 ghost use Rattle.nbd_protocol.specs.Layout.{simple_reply};

@@ -161,7 +161,7 @@ impl ReadReply {
 pub enum Answer {
     /// Given at once, without bytes after it.
     Now(Reply),
-    /// Given at once, with the read bytes.
+    /// A read's bytes; many of them are sent by another task.
     Bytes(ReadReply),
     /// Given once a commit is done.
     Later(Due),

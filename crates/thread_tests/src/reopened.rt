@@ -41,7 +41,7 @@ fn write_and_restart<J: JournalName, D: Device, K: Record, R: Wait>(
     }
 }
 
-/// Does so, and closes the journal: one transaction is sealed and committed.
+/// Writes, restarts, and closes the journal: one transaction is sealed and committed.
 fn closed<J: JournalName, R: Wait + Abort>(
     rt: &R,
     unnamed: UnnamedJournal<MemDevice, Vec<Sealed>>,

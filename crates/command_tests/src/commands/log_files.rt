@@ -63,7 +63,7 @@ fn lengths(rt: &HostRuntime) -> Result<(usize, usize, usize), Fail> {
     Ok((log.len(), home.len(), others))
 }
 
-/// Makes such a log, and returns the output of `format` and `dump`, and the files' lengths.
+/// Makes a log of these measures, and returns the output of `format` and `dump`, and the files' lengths.
 fn made(rt: &HostRuntime, measures: &Measures) -> Result<String, Fail> {
     let formatted = make(rt, measures)?;
     let dumped = dump_of(rt, "empty_log")?;
