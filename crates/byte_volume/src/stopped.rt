@@ -65,11 +65,11 @@ impl Model for Committed {
 }
 
 impl Committed {
-    /// Requests the commit of all transactions up to a number, and waits for it.
+    /// Commits all transactions up to a number, in this thread as far as it can, and waits for the rest.
     ///
     /// # Errors
     ///
-    /// Those of `Session::wait_for`.
+    /// Those of `Session::commit_up_to`.
     pub fn wait_for<J: JournalName, D: Device, R: Record, G: Gate, W: Wait>(
         rt: &W,
         session: &mut Session<'_, J, D, R, G>,
@@ -79,7 +79,7 @@ impl Committed {
         ensures seen { IfOk result (λ receipt. receipt ≤ session.new.seat.seen) }
         ensures err { IfErr result (NotAwaited D) }
     {
-        match session.wait_for(rt, upto) {
+        match session.commit_up_to(rt, upto) {
             Ok(()) => Ok(Committed { upto }),
             Err(e) => Err(e),
         }

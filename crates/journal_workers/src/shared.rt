@@ -1,7 +1,8 @@
 //! What all threads share with the journal: who waits, and who is woken for what.
 use block_device::Device;
 use journal_model::Tid;
-use shared_journal::{EventCounter, Journal, JournalName, Record};
+use shared_journal::{EventCounter, Journal, JournalName, Record, Turn};
+use std::sync::Wait;
 use std::sync::atomic::{AtomicU64, Ordering};
 
 /// What all threads share.
@@ -12,6 +13,38 @@ pub struct Shared<'s, J: JournalName, D: Device, R: Record, G> {
     pub signals: &'s Signals,
     /// Where a test holds threads.
     pub gate: &'s G,
+}
+
+impl<J: JournalName, D: Device, R: Record, G> Shared<'_, J, D, R, G> {
+    /// Locks the running transaction and takes commit turns, until one has committed all up to a number or none is due. It sleeps for
+    /// nobody: where a handle is open, the ring lacks room or a turn is refused, the rest is left to the commit worker.
+    pub fn lead<W: Wait>(&self, rt: &W, upto: Tid) {
+        if self.journal.lock(rt).is_err() {
+            return;
+        }
+        for _ in rt.forever() {
+            match self.journal.commit_turn(rt) {
+                Ok(Turn::Step) => self.signals.count_step(),
+                Ok(Turn::Sealed(_)) => self.signals.changes.notify(),
+                Ok(Turn::Committed(tid)) => {
+                    self.signals.changes.notify();
+                    if upto.0 <= tid.0 {
+                        break;
+                    }
+                }
+                Ok(Turn::Idle | Turn::Waiting) => break,
+                Err(_) => {
+                    self.signals.changes.notify();
+                    break;
+                }
+            }
+        }
+    }
+
+    /// Whether about half of the ring may be used: a transaction takes at most a quarter of it, and a few blocks more than the capacity.
+    pub fn wants_round(&self) -> bool {
+        self.signals.steps.load(Ordering::SeqCst) / 2 >= self.journal.capacity()
+    }
 }
 
 /// Why the commit worker is woken.
@@ -25,6 +58,8 @@ pub enum Wake {
     HalfFull,
     /// A handle has stopped, and somebody waits.
     Stopped,
+    /// A client has taken commit turns, and about half of the ring may be used.
+    HalfRing,
 }
 
 /// How threads notify each other.
@@ -36,6 +71,8 @@ pub struct Signals {
     pub room: EventCounter,
     /// 1 while a requested round has not begun.
     round: AtomicU64,
+    /// Device calls of commits since a round was last requested for them.
+    steps: AtomicU64,
     /// 1 while a commit is requested because half of the credits are used, and the worker has not begun to look.
     half_full: AtomicU64,
     /// How many wait for a commit, for credits, or for a transaction that takes handles.
@@ -49,6 +86,7 @@ impl Signals {
             changes: EventCounter::new(),
             room: EventCounter::new(),
             round: AtomicU64::new(0),
+            steps: AtomicU64::new(0),
             half_full: AtomicU64::new(0),
             waiting: AtomicU64::new(0),
         }
@@ -81,6 +119,16 @@ impl Signals {
     /// The worker begins to look, or was not woken: the request is no longer open.
     pub fn begin_half(&self) {
         self.half_full.store(0, Ordering::SeqCst);
+    }
+
+    /// Counts one more device call of a commit.
+    pub(crate) fn count_step(&self) {
+        self.steps.fetch_add(1, Ordering::SeqCst);
+    }
+
+    /// Forgets the device calls so far: a round is requested for them.
+    pub(crate) fn forget_steps(&self) {
+        self.steps.store(0, Ordering::SeqCst);
     }
 
     /// Requests a round. It returns whether to send the request: not if an earlier one has not begun.
