@@ -16,9 +16,9 @@ pub struct Shared<'s, J: JournalName, D: Device, R: Record, G> {
 }
 
 impl<J: JournalName, D: Device, R: Record, G> Shared<'_, J, D, R, G> {
-    /// Locks the running transaction and takes commit turns, until one has committed all up to a number or none is due. It sleeps for
+    /// Locks the running transaction and takes commit turns, until one is committed or none is due. It sleeps for
     /// nobody: where a handle is open, the ring lacks room or a turn is refused, the rest is left to the commit worker.
-    pub fn lead<W: Wait>(&self, rt: &W, upto: Tid) {
+    pub fn lead<W: Wait>(&self, rt: &W) {
         if self.journal.lock(rt).is_err() {
             return;
         }
@@ -26,11 +26,9 @@ impl<J: JournalName, D: Device, R: Record, G> Shared<'_, J, D, R, G> {
             match self.journal.commit_turn(rt) {
                 Ok(Turn::Step) => self.signals.count_step(),
                 Ok(Turn::Sealed(_)) => self.signals.changes.notify(),
-                Ok(Turn::Committed(tid)) => {
+                Ok(Turn::Committed(_)) => {
                     self.signals.changes.notify();
-                    if upto.0 <= tid.0 {
-                        break;
-                    }
+                    break;
                 }
                 Ok(Turn::Idle | Turn::Waiting) => break,
                 Err(_) => {
