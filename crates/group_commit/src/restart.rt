@@ -1,4 +1,4 @@
-//! The restart of a handle.
+//! What a restart leaves: the handle is stopped, and another is in the running transaction.
 ghost use Rattle.std.specs.Prelude.{◌≡◌, IfErr, IfOk};
 ghost use Rattle.journal_world.specs.Front.{next_handle};
 ghost use Rattle.group_commit.specs.Extension.{RestartRefused, Restarts};

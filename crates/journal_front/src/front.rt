@@ -218,7 +218,7 @@ impl<R: Record> Front<R> {
         self.newest(block).is_none()
     }
 
-    /// Whether a handle may make a step on the block, the credit for a first touch apart.
+    /// Whether a handle may make a step on the block; its credit for a first touch is not tested.
     ///
     /// # Errors
     ///

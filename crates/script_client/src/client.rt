@@ -34,7 +34,7 @@ impl HomeFact for AnyHome {
     ghost holds = { IsAnyHome };
 }
 
-/// A fact that the caller picks, in proofs alone.
+/// The fact that every home area meets, in proofs alone.
 impl HomeFact for Brand {
     ghost use Rattle.script_client.specs.Told.{IsAnyHome};
 

@@ -32,7 +32,7 @@ impl EventCounter {
         (self.count() % (1 << 32)) as u32
     }
 
-    /// Counts one more event and wakes all sleepers. Without sleepers it makes no system call: a later one finds the new count.
+    /// Counts one more event and wakes all sleepers. Without sleepers it makes no system call: a later sleeper finds the new count.
     pub fn notify(&self) {
         self.count.fetch_add(1, Ordering::SeqCst);
         if self.sleepers.load(Ordering::SeqCst) != 0 {
