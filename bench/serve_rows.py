@@ -6,7 +6,7 @@ nbd project) that shares nothing with the server.
 """
 import itertools, struct, sys
 
-BLOCK, HOME, CAPACITY = 1024, 16, 6
+BLOCK, HOME, CAPACITY = 1024, 64, 6
 SIZE = BLOCK * HOME
 FUA, MOST = 1, 32 << 20
 DESCRIPTION = b"journal: a write of up to %d blocks of %d bytes is atomic" % (CAPACITY, BLOCK)
@@ -165,7 +165,8 @@ def streams():
     yield "an option without the magic", c().option(7, bytes(6), magic=b"IHAVEOPS")
     yield "whole blocks are written and read", c().go().request(1, 1, 1024, data=b"A" * 2048).request(0, 2, 0, 4096).request(2, 3)
     yield "heads and tails keep the rest of their blocks", c().go().request(1, 1, 1024, data=b"A" * 3072).request(1, 2, 1500, data=b"B" * 1500).request(1, 3, 1025, data=b"C").request(0, 4, 1000, 3200).request(2, 5)
-    yield "a write over more blocks than one handle has credits", c().go().request(1, 1, 512, data=b"A" * 9000).request(0, 2, 0, SIZE).request(3, 3).request(2, 4)
+    yield "a write over more blocks than one handle has credits", c().go().request(1, 1, 512, data=b"A" * 9000).request(0, 2, 0, 16384).request(3, 3).request(2, 4)
+    yield "long reads are answered whole and in order, though the client has ended", c().go().request(1, 1, 512, data=b"A" * 5000).request(0, 2, 0, SIZE).request(0, 3, 0, SIZE).request(2, 4)
     yield "a flush with nothing to flush", c().go().request(3, 7).request(2, 8)
     yield "a write with FUA", c().go().request(1, 0xFFFFFFFFFFFFFFFF, 2048, data=b"F" * 1024, flags=1).request(2, 8)
     yield "zeros over more blocks than one handle has credits, with FUA", c().go().request(1, 1, 0, data=b"A" * SIZE).request(6, 2, 700, SIZE - 1400, flags=3).request(2, 8)
@@ -215,7 +216,7 @@ if __name__ == "__main__":
     folder = sys.argv[1]
     with open(folder + "/streams.rows", "w") as f:
         f.write("# What a client sends, what a server answers, and what it leaves: by the model in bench/serve_rows.py. Blocks have 1024 bytes,\n"
-                "# and a handle 6 credits at most. Where an answer waits for a commit, no request follows that might overtake it.\nrows streams\n")
+                "# and a handle 6 credits at most. Where an answer waits for a commit, or has 65536 bytes, no request follows\n# whose answer might overtake it.\nrows streams\n")
         for name, c in streams():
             wanted = c.wanted()
             if name.startswith("wrong on purpose"):

@@ -1,16 +1,37 @@
 #!/usr/bin/env -S python3 -B
 """Random requests, given to `jbench serve` as one stream each: all that it answers, and the home area that it leaves, are compared with the
-model of `serve_rows.py`. It wants no client of NBD. Only the last request of a stream is a flush, so that no answer overtakes another.
+model of `serve_rows.py`. It wants no client of NBD. Answers may come in another order than requests: each is compared by its cookie.
 
     serve_streams.py [--program PATH] COUNT SEED
 """
-import argparse, pathlib, random, subprocess, sys, tempfile
+import argparse, pathlib, random, struct, subprocess, sys, tempfile
 import serve_rows as model
 
 TOP = pathlib.Path(__file__).resolve().parent.parent
 BLOCKS = 1024
 MOST_SENT, MOST_READ = 3 << 20, 1 << 20
 LENGTHS = [1, 7, 512, 1024, 4096, 5000, 65536, 300000]
+
+
+class Connection(model.Connection):
+    """remembers how many bytes each answer has"""
+
+    def request(self, command, cookie, offset=0, length=0, data=b"", **more):
+        self.lengths[cookie] = length if command == 0 else 0
+        return super().request(command, cookie, offset, length, data, **more)
+
+
+def answers(out, begun, lengths):
+    """the bytes before the first answer, each cookie's error and bytes, how many answers there are, and whether that is all"""
+    told, count, at = {}, 0, begun
+    while at + 16 <= len(out):
+        magic, error, cookie = struct.unpack_from(">IIQ", out, at)
+        if magic != 0x67446698:
+            break
+        n = 0 if error else lengths.get(cookie, 0)
+        told[cookie] = (error, out[at + 16 : at + 16 + n])
+        count, at = count + 1, at + 16 + n
+    return out[:begun], told, count, at == len(out)
 
 
 def refused(c, cookie):
@@ -30,7 +51,9 @@ def trimmed(c, cookie, at, n):
 
 def stream(seed):
     random.seed(seed)
-    c, cookie = model.Connection().go(), 0
+    c, cookie = Connection(), 0
+    c.go()
+    c.begun, c.lengths = len(c.out), {}
     while len(c.requests) < MOST_SENT and len(c.out) < MOST_READ:
         cookie += 1
         what, at = random.random(), random.randrange(model.SIZE)
@@ -58,7 +81,7 @@ def serve(program, c):
         subprocess.run([program, "format", *files, "--length", "257", "--home", str(BLOCKS)], check=True, stdout=subprocess.DEVNULL)
         done = subprocess.run([program, "serve", *files], input=c.hello + c.requests, capture_output=True, timeout=120)
         left = pathlib.Path(files[1]).read_bytes()
-    found = {"status": done.returncode == 0, "answers": done.stdout == c.out, "home": left == bytes(c.home)}
+    found = {"status": done.returncode == 0, "answers": answers(done.stdout, c.begun, c.lengths) == answers(c.out, c.begun, c.lengths), "home": left == bytes(c.home)}
     return [word for word, same in found.items() if not same]
 
 

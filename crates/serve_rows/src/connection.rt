@@ -19,7 +19,8 @@ const BLOCK_SIZE: usize = 1024;
 /// Blocks of the log: a handle has at most six credits.
 const LOG_BLOCKS: u32 = 33;
 
-pub const HOME_BLOCKS: u64 = 16;
+/// As many that a read of all is long enough for the task that sends long answers.
+pub const HOME_BLOCKS: u64 = 64;
 
 /// How many answers that confirm a commit are kept.
 const KEEP: usize = 64;
