@@ -22,37 +22,14 @@ pub(crate) struct Word {
 
 pub(crate) const PROGRAM: Usage = Usage {
     name: "jbench",
-    about: "Runs scripts of journal operations over a disk in memory that loses power and judges what is left; makes, prints and recovers logs",
+    about: "Runs journal scripts over a disk in memory that loses power, and judges what is left; makes, prints and recovers logs",
     after_help: "\
-help COMMAND: prints the help of a command, as --help after it does.
-run SCRIPT [--stop K | --fail K] [--keep LIST] [--stop2 K] [--keep2 LIST] [--image-log PATH --image-home PATH] [--json]: SCRIPT is a
-file, a pipe, or - for standard input, 256 MiB at most, K a write number from 1 on (default: the device stops at the end, and the opening
-does not stop), or with --fail the number of a call that fails, LIST write numbers with commas (default: none), PATH a file that gets what
-the stop left. jbench run --help says what a script is.
-sweep SCRIPT [--fail] [--json]: runs a script with a stop at each of its writes and judges what each leaves; with --fail also once for
-each device call, which fails.
-check SCRIPT: says whether a script of run or of threads is good, and why it is not.
-threads SCRIPT: runs the clients of a script, each in a thread of its own, over one journal, and judges what came of them.
-format LOG HOME [--block B] [--length M] [--home N] [--uuid DIGITS] [--wide] [--keep-home] [--new]: two files become an empty log of M
-blocks (default: 33) and a home area of N zero blocks (default: 64), of B bytes each (default: 1024), or only the first does.
-dump LOG [--damaged] [--json | --copy PLACE]: prints the log in a file, where that is told up to a damaged block; or the bytes of one
-copy.
-show LOG [--json]: prints each field of the superblock in a file, why an opening would refuse it, and what the ring holds.
-cat LOG HOME BLOCK [--wait SECONDS]: prints a block of the home area as an opening would leave it, and writes nothing.
-recover LOG HOME [--before-damage] [--dry-run] [--wait SECONDS] [--json]: opens the log in a file, and brings home what its
-complete transactions copied, where that is told also those of a damaged log; or says what it would do.
-upgrade LOG: gives the empty log in a file block numbers of 64 bits.
-apply LOG HOME SCRIPT [--stay] [--keep-going] [--make-room] [--wait SECONDS] [--json]: opens the log in a file, and does the
-operations of a script over it and its home area.
-bench LOG HOME [--seconds N] [--transactions N] [--copies K] [--threads N] [--csv] [--wait SECONDS]: opens the log in a file, and
-tells how long transactions take.
-serve LOG HOME [--read-only] [--export NAME] [--wait SECONDS]: opens the log in a file, and serves its home area as a block device
-over NBD.
-completions SHELL: prints what bash, zsh or fish is told so that it completes these words.
-man: prints the page for man.
-build [--status]: a word of the script ./jbench, which makes the proved program, or says how far that is.
+jbench help COMMAND prints the help of a command, as --help after it does. build
+[--status] is a word of the script ./jbench: it makes the proved program, or
+says how far that is.
 
-Exit status: 0 done, 1 refused (words, file, script, refusal), 2 a verdict is false.
+Exit status: 0 done; 1 refused: words, a file, a script, a log; 2 a verdict is
+false.
 
 Example: jbench run examples/one_write.json --stop 4 --keep 4",
     words: &[],
@@ -62,49 +39,64 @@ pub(crate) const RUN: Usage = Usage {
     name: "run",
     about: "Runs a script, stops the device, opens what the stop left, and judges it",
     after_help: "\
-The device is formatted and opened before the first operation; its writes and its calls are numbered from 1 after that. The
-image has of each block the greatest unflushed write that --keep names, else what was flushed last. A refused operation prints
-its refusal, and counts as done. The script ends with the first operation that is refused because the device failed, but with
---fail it goes on: call K fails and does nothing, and from then on the journal refuses operations with 'refused 3 Aborted'.
+The device is formatted and opened before the first operation. After that its
+writes and its calls are numbered from 1. In the image each block has the latest
+unflushed write that --keep names, or else what was flushed last.
 
-With --stop2 the opening of the image is stopped at its own write K, counted from 1, and keeps of its unflushed writes those of
---keep2. That is opened once more, and judged by what the image had. An opening that makes fewer writes is not stopped.
+A refused operation prints its refusal, and counts as done. The script ends with
+the first operation that is refused because the device failed. With --fail it
+goes on: call K fails and does nothing, and from then on the journal refuses
+operations with 'refused 3 Aborted'.
 
-With --image-log and --image-home the image is also written to two files before it is opened, byte for byte, so that other
-programs can judge it: jbench recover of them ends as the run's line 'open' says. Both files are made where there are none, and
-lose what they held once the script is taken. They are made before the script runs. A home area of more than 1048576 blocks has no
-image.
+With --stop2 the opening of the image stops at its own write K, counted from 1.
+It keeps those of its unflushed writes that --keep2 names. What it leaves is
+opened once more, and judged by what the image had. An opening that makes fewer
+writes does not stop.
 
-With --json it prints one object in the place of lines, once all is done: \"operations\", a list of objects with \"operation\"
-and \"answer\", which are the sides of a line; \"stopped\", the write or null; \"dump\" and \"openings\", lists of lines; \"home\", a list
-of objects with \"block\" and \"begins\"; and \"verdict\".
+With --image-log and --image-home the image is written to two files, byte for
+byte, before it is opened. Other programs can judge it there: jbench recover of
+them ends as the line 'open' says. Both files are made before the script runs.
+They lose what they held once the script is accepted. A home area of more than
+1048576 blocks has no image.
 
-A script is a JSON object with these keys, of which \"ops\" alone has to be there:
+With --json it prints one object instead of lines, once all is done.
+\"operations\" is a list of objects with \"operation\" and \"answer\", the two sides
+of a line. \"stopped\" is the write, or null. \"dump\" and \"openings\" are lists of
+lines. \"home\" is a list of objects with \"block\" and \"begins\". \"verdict\" comes
+last.
+
+A script is a JSON object with these keys; only \"ops\" is required:
   \"block\"   bytes of a block: 1024, 2048 or 4096 [default: 1024]
   \"length\"  blocks of the log, 17 to 1048576 [default: 33]
-  \"home\"    blocks of the home area, 1 to 1048576, or with \"wide\": true to 1099511627776 [default: 64]
+  \"home\"    blocks of the home area, 1 to 1048576, in a wide log
+            to 1099511627776 [default: 64]
   \"uuid\"    the journal's UUID, 32 hex digits [default: aa 16 times]
-  \"wide\"    true where block numbers have 64 bits, or false [default: false]
-  \"ops\"     a list of at most 100,000 operations, where H names a handle, 0 to 9999:
+  \"wide\"    whether block numbers have 64 bits, true or false [default: false]
+  \"ops\"     a list of at most 100,000 operations; H names a handle, 0 to 9999:
   [\"start\", H, n]       a handle with n credits
-  [\"write\", H, b, hex]  home block b becomes these bytes, at most a block, and zeros behind them
-  [\"revoke\", H, b]      home block b is revoked: no copy of it so far is to come back
-  [\"read\", H, b]        how home block b begins, as the handle's transaction sees it
-  [\"extend\", H, n]      the handle gets n further credits
-  [\"restart\", H, n]     the handle ends, and another one with n credits takes its name
+  [\"write\", H, b, hex]  home block b becomes these bytes, at most a block, and
+                        zeros after them
+  [\"revoke\", H, b]      no earlier copy of home block b is to come back
+  [\"read\", H, b]        the first bytes of home block b, as the handle's
+                        transaction sees it
+  [\"extend\", H, n]      the handle gets n more credits
+  [\"restart\", H, n]     the handle ends; another with n credits takes its name
   [\"stop\", H]           the handle ends
   [\"request\", H]        asks for the commit of its transaction
-  [\"lock\"]              the running transaction takes no further handles
+  [\"lock\"]              the running transaction takes no more handles
   [\"turn\"]              takes one commit turn
-  [\"commit\"]            takes commit turns until one has nothing to do, or waits for a handle that has not stopped
+  [\"commit\"]            takes commit turns until one has nothing to do, or waits
+                        for an open handle
   [\"ckturn\"]            takes one checkpoint turn
   [\"check\"]             takes checkpoint turns until one has nothing to do
   [\"status\", H]         whether its transaction is committed
-  [\"wait\", H]           its receipt, where its transaction is committed
-  [\"direct\", b, hex]    home block b becomes these bytes, past the log, where the journal leaves it to home
+  [\"wait\", H]           its receipt, if its transaction is committed
+  [\"direct\", b, hex]    writes home block b past the log, if no copy in the log
+                        could overwrite it later
   [\"sync\"]              makes direct writes durable
 
-Exit status: 0 done, verdict ok; 1 refused: the words, the file, the script, or the log; 2 verdict false.
+Exit status: 0 done, verdict ok; 1 refused: the words, the file, the script, or
+the log; 2 verdict false.
 
 Example: jbench run examples/one_write.json --stop 4 --keep 4",
     words: &[
@@ -169,20 +161,29 @@ pub(crate) const SWEEP: Usage = Usage {
     name: "sweep",
     about: "Runs a script with a stop at each of its writes, opens what each stop may have left, and judges it",
     after_help: "\
-The script is one of run: jbench run --help says what that is. It is stopped at each of its writes, and of each stop each choice
-of the last four writes up to it is kept: that makes an image, which is opened and judged. The opening of each image is stopped at
-each of its own writes in the same way, and what that left is opened once more and judged by what the image had. It prints
-'sweep writes=W images=I again=A false=F': W writes of the run, I images, A openings after a stopped one, and F openings of both
-kinds that are refused or whose verdict is false. Each of these is named on standard error, with the options that show it.
+jbench run --help has the form of a script. The script is stopped at each of its
+writes. Each choice of the last four writes up to the stop gives an image, which
+is opened and judged. The opening of each image is stopped at each of its own
+writes in the same way. What it leaves is opened once more, and judged by what
+the image had.
 
-With --fail the script is also run once for each of its C device calls (reads, writes and flushes after the first opening), which
-fails and does nothing: the script goes on, and the device stops at the end. Each choice of that run's last four writes is kept,
-opened and judged. A second line is 'fail calls=C false=F'.
+It prints 'sweep writes=W images=I again=A false=F': W writes of the run, I
+images, A openings after a stopped one. F counts the openings of both kinds that
+are refused or have a false verdict. Each of these is named on standard error,
+with the options of run that show it.
 
-With --json it prints one object in the place of lines, once all is done: \"writes\", \"images\", \"again\" and \"false\" are
-numbers, with --fail \"fail\" is an object of the numbers \"calls\" and \"false\", and \"verdict\" is \"ok\" or \"false\".
+With --fail the script also runs once for each of its C device calls: reads,
+writes and flushes after the first opening. That call fails and does nothing.
+The script goes on, and the device stops at the end. Each choice of that run's
+last four writes is kept, opened and judged. A second line is 'fail calls=C
+false=F'.
 
-Exit status: 0 done, all verdicts ok; 1 refused: the words, the file, or the script; 2 an F is not 0.
+With --json it prints one object instead of lines, once all is done. \"writes\",
+\"images\", \"again\" and \"false\" are numbers. With --fail \"fail\" is an object of
+the numbers \"calls\" and \"false\". \"verdict\" is \"ok\" or \"false\".
+
+Exit status: 0 done, all verdicts ok; 1 refused: the words, the file, or the
+script; 2 an F is not 0.
 
 Example: jbench sweep examples/two_blocks.json --fail",
     words: &[
@@ -209,16 +210,20 @@ Example: jbench sweep examples/two_blocks.json --fail",
 
 pub(crate) const CHECK: Usage = Usage {
     name: "check",
-    about: "Says whether a script is good, and where it is not, which key or operation is bad, and why",
+    about: "Says whether a script is good, or which key or operation is bad, and why",
     after_help: "\
-The script is one of run: jbench run --help says what that is. Nothing is run. It prints 'good operations=N', or on standard
-error 'jbench: bad script: ' with the key, or the number of the operation from 1 on and its text, and what is wrong with it.
+jbench run --help has the form of a script. Nothing is run. For a good script it
+prints 'good operations=N'. For a bad one standard error has 'jbench: bad
+script: ' and what is wrong: with a key, or with an operation, which is named by
+its number from 1 on and its text.
 
-A script with the key \"clients\" is one of threads: jbench threads --help says what that is. It prints 'good clients=N handles=N
-receipts=N', how many clients, starts and waits it has, or behind 'jbench: bad script: ' the key, or the client and the number of its
-operation, each from 1 on, and what is wrong, as threads says it.
+A script with the key \"clients\" has the form in jbench threads --help. If it is
+good, it prints 'good clients=N handles=N receipts=N': how many clients, starts
+and waits it has. If it is bad, the line names a key, or a client and the number
+of its operation, each from 1 on.
 
-Exit status: 0 the script is good; 1 it is not, or the words or the file were refused.
+Exit status: 0 the script is good; 1 it is not, or the words or the file were
+refused.
 
 Example: jbench check examples/two_blocks.json",
     words: &[Word {
@@ -233,25 +238,35 @@ pub(crate) const THREADS: Usage = Usage {
     name: "threads",
     about: "Runs the clients of a script, each in a thread of its own over one journal, and judges what came of them",
     after_help: "\
-The journal lies over a disk in memory. A thread of its own commits, so that the handles of several clients come to one commit, and
-another one writes home. Once all clients have ended it prints 'clients N', 'handles N' and 'receipts N', how many clients, starts and
-waits the script has, and four verdicts, each 'ok' or 'false':
-  verdict credits   the credits that are held are those of the entries of the running transaction
-  verdict receipts  each handle that was waited for stands in the record, in a committed transaction
+The journal is over a disk in memory. One thread commits, so that handles of
+several clients come to one commit; another writes home. When all clients have
+ended it prints 'clients N', 'handles N' and 'receipts N': how many clients,
+starts and waits the script has. Four verdicts follow, each 'ok' or 'false':
+  verdict credits   the held credits are those of the entries of the running
+                    transaction
+  verdict receipts  each handle that was waited for is in the record, in a
+                    committed transaction
   verdict order     the transactions of a client's handles never fall
-  verdict recovery  a stop then leaves what opens to each transaction that was waited for, with the blocks that it wrote
-A client that is refused something ends, and 'jbench: client I refused N Name' says so on standard error; nothing is judged then.
+  verdict recovery  an opening after a stop has each transaction that was waited
+                    for, with the blocks that it wrote
+A refused client ends, and 'jbench: client I refused N Name' says so on standard
+error. Nothing is judged then.
 
-A script is a JSON object with the key \"clients\", a list of 1 to 64 lists with at most 100,000 operations in all, and at will the
-keys \"block\", \"length\", \"home\", \"uuid\" and \"wide\" of a script of run. The operations of a client, which has one
-handle at a time:
-  [\"start\", n]       a handle with n credits: as many as blocks that it touches, at most what a transaction can have
-  [\"write\", b, hex]  home block b becomes these bytes, at most a block, and zeros behind them
-  [\"revoke\", b]      home block b is revoked: no copy of it so far is to come back
-  [\"stop\"]           the handle ends; each that is started has to
-  [\"wait\"]           after a stop: the client goes on once that handle's transaction is committed
+A script is a JSON object with the key \"clients\": a list of 1 to 64 lists, with
+at most 100,000 operations in all. It may have the keys \"block\", \"length\",
+\"home\", \"uuid\" and \"wide\" of a script of run. A client has one handle at a time.
+Its operations:
+  [\"start\", n]       a handle with n credits: one for each block that it touches,
+                     at most what a transaction can have
+  [\"write\", b, hex]  home block b becomes these bytes, at most a block, and zeros
+                     after them
+  [\"revoke\", b]      no earlier copy of home block b is to come back
+  [\"stop\"]           the handle ends; each one that is started has to
+  [\"wait\"]           after a stop: the client goes on once that handle's
+                     transaction is committed
 
-Exit status: 0 done, all verdicts ok; 1 refused: the words, the file, the script, or a client; 2 a verdict is false.
+Exit status: 0 done, all verdicts ok; 1 refused: the words, the file, the
+script, or a client; 2 a verdict is false.
 
 Example: jbench threads examples/two_clients.json",
     words: &[Word {
@@ -266,18 +281,26 @@ pub(crate) const FORMAT: Usage = Usage {
     name: "format",
     about: "Makes two files an empty log and a home area of zeros, or makes a log beside a home area that is kept",
     after_help: "\
-Both files are made where there are none, and lose what they held; standard error says what LOG held. With --new a file that is there
-is refused, and stays as it is. LOG gets M blocks of B bytes: the superblock, and zeros.
-HOME gets N blocks of zeros, each of which is written: a disk that is full later has room for them. No file is changed before both
-could be opened and locked, and none is ever taken away: one that was made stays, empty, where the other can't be opened, and the
-message says so. Before anything is lost that they held the disk gets room for both: where it is too small they stay as they were.
-Linux takes logs of 1024 blocks and more alone: give --length 1024 to a log that it is to read.
+LOG gets M blocks of B bytes: the superblock, and zeros. HOME gets N blocks of
+zeros; each is written, so they have room if the disk is full later. A missing
+file is made. Both files lose what they held; standard error says what LOG held.
+With --new a file that exists is refused, and stays as it is.
 
-With --wide the log's block numbers have 64 bits. What it then holds is read by this program alone: nothing is claimed of others.
+No file is changed before both are open and locked. The disk gets room for both
+before anything in them is lost; if it is too small, they stay as they were. No
+file is ever removed: if one was made and the other can't be opened, the new one
+stays, empty, and the message says so.
 
-With --keep-home HOME stays as it is, byte for byte, and is synced. It has to be there, and not to be shorter than N blocks (default:
-1). What LOG held is lost all the same, also transactions that were not home yet: recover them first, or what can be had of them, by
-recover with --before-damage.
+Linux takes only logs of 1024 blocks and more: give --length 1024 to a log that
+it is to read.
+
+With --wide the log's block numbers have 64 bits. What it then holds is read by
+this program alone: nothing is claimed of others.
+
+With --keep-home HOME stays as it is, byte for byte, and is synced. It must
+exist, with N blocks or more (default: 1). LOG still loses what it held, also
+transactions that are not home yet. Recover these first, or with recover
+--before-damage as many as can be had.
 
 Exit status: 0 done; 1 refused: the words, a file, or the device.
 
@@ -311,7 +334,7 @@ Example: jbench format log home --block 4096 --length 1024",
             name: "home",
             value: "N",
             is_option: true,
-            help: "Blocks of the home area, 1 to 1048576 [default: 64]; with --keep-home the fewest that it has to have [default: 1]",
+            help: "Blocks of the home area, 1 to 1048576 [default: 64]; with --keep-home the fewest that it may have [default: 1]",
         },
         Word {
             name: "uuid",
@@ -335,7 +358,7 @@ Example: jbench format log home --block 4096 --length 1024",
             name: "new",
             value: "",
             is_option: true,
-            help: "Refuse a file that is there: both have to be new, or with --keep-home the log",
+            help: "Refuse a file that exists: both must be new, or with --keep-home the log",
         },
     ],
 };
@@ -344,18 +367,26 @@ pub(crate) const DUMP: Usage = Usage {
     name: "dump",
     about: "Prints the log in a file: its superblock, and each block of its complete transactions",
     after_help: "\
-The bytes of a block are what stands at 0x0c of LOG where that is 1024, 2048 or 4096, else 1024. Nothing is printed where the
-log is refused, but with --damaged or --copy. LOG is not written.
+The block size is the number at 0x0c of LOG if that is 1024, 2048 or 4096, else
+1024. LOG is not written. If the log is refused nothing is printed, except with
+--damaged or --copy.
 
-With --damaged a log that is refused with 22 Damage is printed all the same: its complete transactions before the damaged block. The
-refusal follows on standard error, and the exit status is 1. With --copy PLACE the bytes of the copy in block PLACE of LOG are printed in
-place of the log, in hex, 32 on a line, as an opening would write them home. That block has to be one of a complete transaction, which
-may stand before a damaged block: the dump has a line 'PLACE copy N block=B' for it.
+With --damaged a log that is refused with 22 Damage is printed up to the damaged
+block: its complete transactions before that. The refusal follows on standard
+error, and the exit status is 1.
 
-With --json it prints one object in the place of lines: \"super\", \"blocks\", and \"end\" or \"empty\" have the words of these lines with
-their numbers; \"blocks\" is a list of objects with \"place\", \"kind\", \"transaction\" and the other words of their line.
+With --copy PLACE it prints one copy instead of the log: the one in block PLACE
+of LOG, as an opening would write it home, in hex, 32 bytes a line. It must be
+in a complete transaction, which may be before a damaged block. The dump has a
+line 'PLACE copy N block=B' for it.
 
-Exit status: 0 done; 1 refused: the words, the file, or the log, or no copy stands in that block.
+With --json it prints one object instead of lines. \"super\", \"blocks\", and \"end\"
+or \"empty\" have the words of these lines with their numbers. \"blocks\" is a list
+of objects with \"place\", \"kind\", \"transaction\" and the other words of their
+line.
+
+Exit status: 0 done; 1 refused: the words, the file, or the log, or that block
+holds no copy.
 
 Examples:
   jbench dump log
@@ -392,11 +423,14 @@ pub(crate) const CAT: Usage = Usage {
     name: "cat",
     about: "Prints a block of the home area as an opening of its log would leave it",
     after_help: "\
-The bytes of block BLOCK of HOME, counted from 0, are printed as they are: the newest copy of the block in a complete transaction of LOG
-that no revoke covers, or where there is none what HOME has. Both files are read, and nothing is written; other programs may read
-them too. Where an opening would refuse the log, so does this. The blocks of LOG are held in memory.
+It prints the bytes of block BLOCK of HOME, counted from 0, as they are. These
+are the newest copy of the block in a complete transaction of LOG that no revoke
+covers, or, without one, what HOME has. Both files are read, and nothing is
+written; other programs may read them too. A log that an opening would refuse is
+refused. The blocks of LOG are held in memory.
 
-Exit status: 0 done; 1 refused: the words, a file, or the log, or HOME has no such block.
+Exit status: 0 done; 1 refused: the words, a file, or the log, or HOME has no
+such block.
 
 Example: jbench cat log home 9 | xxd",
     words: &[
@@ -422,27 +456,34 @@ Example: jbench cat log home 9 | xxd",
             name: "wait",
             value: "SECONDS",
             is_option: true,
-            help: "Wait so long for a file that another program writes, 1 to 86400 [default: not at all]",
+            help: "Wait at most so long for a file that another program writes, 1 to 86400 [default: not at all]",
         },
     ],
 };
 
 pub(crate) const SHOW: Usage = Usage {
     name: "show",
-    about: "Prints each field of the superblock of the log in a file by its name, whatever its value is",
+    about: "Prints each field of the superblock by its name, whatever its value is, and what the ring holds",
     after_help: "\
-Below a field that fails a test of an opening stands the refusal, and what is wanted of it; features have their names. The last
-lines say whether an opening takes the superblock, and where a feature keeps it from that, what the owner of the log can do about
-it; of a log whose superblock is taken also how many blocks of the ring are used and free, and the numbers of the oldest and the newest
-transaction that stand there. The bytes of a block are what stands at 0x0c of LOG where that is 1024, 2048 or 4096, else 1024. LOG is not written.
+Below a field that fails a test of an opening it prints the refusal, and what is
+wanted. Features have their names. The last lines say whether an opening takes
+the superblock. If a feature prevents that, they say what the owner of the log
+can do. If it is taken, they tell how many blocks of the ring are used and free,
+and the numbers of the oldest and newest transaction there. The block size is
+the number at 0x0c of LOG if that is 1024, 2048 or 4096, else 1024. LOG is not
+written.
 
-With --json it prints one object in the place of lines: \"log\" has \"blocks\" and \"blocksize\"; \"superblock\" the fields by their names,
-and \"s_feature_compat_names\" and so on, lists of the names that are known; \"failed\" is a list of objects with \"field\",
-\"refusal\" and \"wanted\"; \"refusal\" is what the superblock alone comes to, or null: an opening may still refuse the log for its ring;
-\"advice\" is a list of lines on it; \"ring\" has the words of its line, and \"damaged\" the block of the line below it, or it is null.
-A refusal has \"number\" and \"name\".
+With --json it prints one object instead of lines. \"log\" has \"blocks\" and
+\"blocksize\". \"superblock\" has the fields by their names, and
+\"s_feature_compat_names\" and so on, lists of the known names. \"failed\" is a list
+of objects with \"field\", \"refusal\" and \"wanted\". \"refusal\" is what the
+superblock alone comes to, or null: an opening may still refuse the log for its
+ring. \"advice\" is a list of lines on it. \"ring\" has the words of its line, and
+\"damaged\" the block of the line below it; or it is null. A refusal has \"number\"
+and \"name\".
 
-Exit status: 0 done, whatever the superblock is; 1 refused: the words, the file, or a log of not one block.
+Exit status: 0 done, whatever the superblock is; 1 refused: the words, the file,
+or a log without a whole block.
 
 Example: jbench show log",
     words: &[
@@ -463,34 +504,46 @@ Example: jbench show log",
 
 pub(crate) const RECOVER: Usage = Usage {
     name: "recover",
-    about: "Opens the log in a file: brings home what its complete transactions copied, and leaves it clean",
+    about: "Opens the log in a file: brings the copies of its complete transactions home, and leaves it clean",
     after_help: "\
-The bytes of a block are what stands at 0x0c of LOG where that is 1024, 2048 or 4096, else 1024. Of each block of HOME the newest
-copy is written that no revoke covers; a clean log is opened without a write. Before it is read, what is relied on in LOG is
-written once more just as it is, and synced. Where the log is refused nothing else is written, but for want of memory or a failing
-file: then call it again. It prints 'clean next=N', or
-'recovered end=E next=N transactions=C': N is the number of the next transaction, E the number after the last complete
-one, C how many complete ones there were. N is none where the recovery used the last number up: the log is clean then, and a new one
-is to be made beside the same home, by format with --keep-home.
+The block size is the number at 0x0c of LOG if that is 1024, 2048 or 4096, else
+1024. Before LOG is read, the part of it that counts is written once more as it
+is, and synced. Then each block of HOME gets the newest copy that no revoke
+covers. For a clean log nothing more is written. For a refused log nothing more
+is written, unless memory or a file failed: then call it again.
 
-After 'refusal 2 Device', of this command or another one, see to the disk first: the system may show what its disk lacks. Then
-recover, with no other program on the files; where in doubt, unmount their file system and mount it again before.
+It prints 'clean next=N', or
+'recovered end=E next=N transactions=C'. N is the number of the next
+transaction, E the number after the last complete one, C how many complete ones
+there were. N is none if the recovery used the last number. The log is clean
+then: make a new one beside the same home, by format --keep-home.
 
-With --before-damage a log that is refused with 22 Damage or 21 Ahead is opened in spite of that. Damage: what is brought home are
-the complete transactions before the damaged block. Ahead: those of the log as it reads, as if no block were ahead. All that stands
-behind is given up, so keep a copy of both files, and look at --dry-run before. A second line, '  transactions A to B, stopped by
-refusal 22 Damage K', has the numbers of the transactions that were taken, or '  no transactions', and block K of LOG. A log that is
-not refused is opened as without it, and so are all other refusals as they were. Where it ends with '10 SequenceEnd' no number is left
-above those in the log: where show says s_start 0, make an empty one by format with --keep-home; else that loses what is in the log.
+After 'refusal 2 Device', of this command or another one, see to the disk first:
+the system may show what its disk lacks. Then recover, with no other program on
+the files. In doubt, unmount their file system and mount it again first.
 
-With --dry-run nothing is written: both files are read, and other programs may read them too. It prints what the same command without
-it would find: 'clean next=N', or 'would recover end=E next=N transactions=C blocks=H', where H is how many blocks of HOME it would
-write; and the second line of --before-damage.
+With --before-damage a log that is refused with 22 Damage or 21 Ahead is opened
+in spite of that. Damage: the complete transactions before the damaged block go
+home. Ahead: those of the log as it reads, as if no block were ahead. All later
+ones are given up, so keep a copy of both files, and look at --dry-run first. A
+second line, '  transactions A to B, stopped by refusal 22 Damage K', has the
+numbers of the transactions that were taken, or '  no transactions', and block K
+of LOG. A log that is not refused is opened as without the option; other
+refusals stay. If it ends with '10 SequenceEnd', no number is left above those
+in the log. If show says s_start 0 then, make an empty log by format
+--keep-home; if not, that would lose what is in the log.
 
-With --json it prints one object in the place of lines: \"outcome\", which is clean, recovered or would recover, and the other words of
-that line with their numbers, of which \"next\" is null for none. Of the second line, where there is one, it has \"first\" and \"last\",
-the numbers A and B, both absent for 'no transactions', and \"stopped_by\", an object with \"number\", \"name\" and \"place\"; with --dry-run
-also \"advice\", a list of lines on that.
+With --dry-run nothing is written. Both files are read, and other programs may
+read them too. It prints what the same command without it would find: 'clean
+next=N', or 'would recover end=E next=N transactions=C blocks=H', where H is how
+many blocks of HOME it would write. The second line of --before-damage follows.
+
+With --json it prints one object instead of lines. \"outcome\" is clean, recovered
+or would recover. The other words of that line have their numbers, and \"next\" is
+null for none. Of the second line, if there is one, it has \"first\" and \"last\",
+the numbers A and B, both absent for 'no transactions', and \"stopped_by\", an
+object with \"number\", \"name\" and \"place\"; with --dry-run also \"advice\", a list
+of lines on that.
 
 Exit status: 0 done; 1 refused: the words, a file, or the log.
 
@@ -514,7 +567,7 @@ Examples:
             name: "before-damage",
             value: "",
             is_option: true,
-            help: "Take the complete transactions before the damage, where the log is refused as damaged or ahead",
+            help: "If the log is refused as damaged or ahead, take the complete transactions before the damage",
         },
         Word {
             name: "dry-run",
@@ -526,7 +579,7 @@ Examples:
             name: "wait",
             value: "SECONDS",
             is_option: true,
-            help: "Wait so long for a file that another program has, 1 to 86400 [default: not at all]",
+            help: "Wait at most so long for a file that another program has, 1 to 86400 [default: not at all]",
         },
         Word {
             name: "json",
@@ -541,13 +594,17 @@ pub(crate) const UPGRADE: Usage = Usage {
     name: "upgrade",
     about: "Gives the empty log in a file block numbers of 64 bits: format --wide makes such a log from the start",
     after_help: "\
-Of LOG four bytes of the superblock change, and nothing else; the home area is not needed. It prints 'upgraded sequence=S', the number
-of the log's superblock: the next transaction has the one after it, as before. A log that is not empty is refused with 24 NotEmpty:
-recover it first. One that has such numbers is refused with 23 AlreadyWide. Where power goes away meanwhile, the log is as before or
-upgraded. What an upgraded log then holds is read by this program alone: nothing is claimed of others.
+Four bytes of LOG's superblock change, and nothing else; the home area is not
+needed. It prints 'upgraded sequence=S', the number in the superblock: the next
+transaction has the one after it, as before. A log that is not empty is refused
+with 24 NotEmpty: recover it first. One that has such numbers is refused with 23
+AlreadyWide. If power fails meanwhile, the log is as before or upgraded. What an
+upgraded log then holds is read by this program alone: nothing is claimed of
+others.
 
-Before it is read, the superblock is written once more just as it is, and synced. Where the log is refused nothing else is written. After
-'refusal 2 Device' see to the disk first, and then call it again.
+Before the superblock is read it is written once more as it is, and synced. If
+the log is refused, nothing else is written. After 'refusal 2 Device' see to the
+disk first, and then call it again.
 
 Exit status: 0 done; 1 refused: the words, the file, or the log.
 
@@ -564,27 +621,39 @@ pub(crate) const APPLY: Usage = Usage {
     name: "apply",
     about: "Opens the log in a file, and does the operations of a script over it and its home area",
     after_help: "\
-The log is opened as by recover, and the line of that is printed, with the number that this opening uses also where recover would say
-none; then the operations of the script are done, with the lines of run; then the journal is closed: the log is clean, home has all that was committed, and 'closed next=N' is printed, where N is
-the number of the next transaction. With --stay it is not closed: what was committed stays in the log for the next opening. Handles
-that are open at the end are stopped.
+The log is opened as by recover, and that line is printed, always with the
+number that this opening uses. Then the operations are done, with the lines of
+run. Then the journal is closed: the log is clean, HOME has all that was
+committed, and 'closed next=N' has the number of the next transaction. With
+--stay it is not closed: what was committed stays in the log for the next
+opening. Handles that are open at the end are stopped.
 
-The script is one of run: jbench run --help says what that is. Its keys that speak of the device have to agree with the files, where
-they stand. What one handle writes is there whole or not at all, whenever the power goes away; what a 'wait' or a 'status' line shows
-committed is there. The first operation that is refused ends the work after its line, and so does a refusal to close: the journal is
-not closed, what was committed stands in the log, and of the running transaction nothing is there. With --keep-going only one that
-is refused because a file failed ends it; any other is printed with its refusal, and the work goes on.
+jbench run --help has the form of the script. If it has keys on the device,
+these must agree with the files. What one handle writes is there whole or not at
+all, whenever power fails. What a 'wait' or 'status' line shows committed is
+there.
 
-A commit for which the log has no room is refused, unless --make-room is given: then what is committed goes home first, as by
-'check', and the operation is done after that. Its line says what it came to then, and there is no other for the round.
+The first refused operation ends the work after its line, and so does a refusal
+to close. The journal is not closed then: what was committed stays in the log,
+and nothing of the running transaction is there. With --keep-going only an
+operation that is refused because a file failed ends the work; any other is
+printed with its refusal, and the work goes on.
 
-With --json it prints an object on a line in the place of each line, at once: the first has \"outcome\", and so has the last where the
-journal is closed; it is clean, recovered or closed, with the other words and their numbers, of which \"next\" is null for none. That of
-an operation has \"operation\", its name, the numbers after it as \"handle\", \"credits\" and \"block\", and either \"answer\", a
-transaction's number, a word, or of read the block's first 8 bytes in hex, or \"refusal\", an object with \"number\" and \"name\". A turn
-that sealed, committed or released a transaction has that as \"transaction\", too.
+A commit for which the log has no room is refused, unless --make-room is given.
+Then what is committed goes home first, as by 'check', and the operation is done
+after that. Its line says what came of it; the round has none.
 
-Exit status: 0 done; 1 refused: the words, a file, the script, the log, or the end of the work.
+With --json it prints an object on a line instead of each line, at once. The
+first has \"outcome\", and so has the last if the journal is closed: clean,
+recovered or closed, with the other words of the line and their numbers; \"next\"
+is null for none. That of an operation has \"operation\", its name, and the
+numbers after it as \"handle\", \"credits\" and \"block\". It has either \"answer\",
+which is a transaction's number, a word, or for read the block's first 8 bytes
+in hex; or \"refusal\", an object with \"number\" and \"name\". A turn that sealed,
+committed or released a transaction has that as \"transaction\", too.
+
+Exit status: 0 done; 1 refused: the words, a file, the script, the log, or the
+end of the work.
 
 Example: blocks 9 and 10 of the home area change together:
   jbench format log home
@@ -624,13 +693,13 @@ Example: blocks 9 and 10 of the home area change together:
             name: "make-room",
             value: "",
             is_option: true,
-            help: "Where the log has no room for a commit, bring home what is committed, and do it then",
+            help: "If the log has no room for a commit, bring home what is committed, and then do it",
         },
         Word {
             name: "wait",
             value: "SECONDS",
             is_option: true,
-            help: "Wait so long for a file that another program has, 1 to 86400 [default: not at all]",
+            help: "Wait at most so long for a file that another program has, 1 to 86400 [default: not at all]",
         },
         Word {
             name: "json",
@@ -643,26 +712,34 @@ Example: blocks 9 and 10 of the home area change together:
 
 pub(crate) const BENCH: Usage = Usage {
     name: "bench",
-    about: "Opens the log in a file, overwrites blocks all over its home area in transactions of one handle each, and tells how many a second were durable",
+    about: "Opens the log in a file, overwrites blocks all over its home area in transactions of one handle, and tells how many a second were durable",
     after_help: "\
-The log is opened as by recover. Then transactions are committed one after the other, each by one handle that writes K blocks of
-HOME: of K parts of HOME of the same length a block each, at places that the generator xoshiro256++ draws from the seed 1. So what
-these blocks held is lost. Where the ring has no room for a transaction a checkpoint round comes first. The journal is closed at the
+The log is opened as by recover. Then transactions are committed one after the
+other, each by one handle that writes K blocks of HOME. HOME has K parts of the
+same length, and each gets a block, at a place that the generator xoshiro256++
+draws from the seed 1. What these blocks held is lost. If the ring has no room
+for a transaction, a checkpoint round comes first. The journal is closed at the
 end.
 
-With --threads N clients do so at once over one journal, one of them from each of the seeds 1 to N, each in a thread but the first. One
-that waits first takes a part of a round, if half of the ring may be taken. Then it commits the transaction that all have joined by
-then, with no worker between. --transactions is for all of them together. A line more tells how many commits there were, and how many
+With --threads N clients do so at once over one journal, with the seeds 1 to N,
+each in a thread but the first. A client that waits first takes a part of a
+round, if half of the ring may be taken. Then it commits the transaction that
+all have joined by then, with no worker between. --transactions is for all of
+them together. One more line tells how many commits there were, and how many
 handles each had.
 
-It prints how many transactions and blocks were durable, in which time from the opened log to the last commit, and how many a second;
-the nanoseconds that a commit took, from its request until it was durable with the rounds that it needed: the median, what 99 of 100
-did not exceed, and the most; and how many reads, writes and flushes of one block each area got, those of the opening and of the close too. On
-a terminal it says on standard error each second how many transactions are durable, and how many a second that is so far: where it is
-interrupted these figures are all.
+It prints how many transactions and blocks were durable, in which time from the
+opened log to the last commit, and how many a second. Then it prints the
+nanoseconds that a commit took, from its request until it was durable, with the
+rounds that it needed: the median, what 99 of 100 did not exceed, and the most.
+Then it prints how many reads and writes of one block, and how many flushes,
+each area got, with those of the opening and of the close. On a terminal it says
+on standard error each second how many transactions are durable so far, and how
+many a second that is. If it is interrupted these figures are all.
 
-With --csv it prints all of that as two lines with commas instead, the names of the columns and their values, with the times that 1, 5, 10,
-25, 50, 75, 90, 95 and 99 of 100 commits did not exceed.
+With --csv it prints two lines with commas instead, the names of the columns and
+their values. They have also the times that 1, 5, 10, 25, 50, 75, 90, 95 and 99
+of 100 commits did not exceed.
 
 Exit status: 0 done; 1 refused: the words, a file, the log, or the device.
 
@@ -684,7 +761,7 @@ Example: jbench bench log home --seconds 10 --copies 4",
             name: "seconds",
             value: "N",
             is_option: true,
-            help: "Begin no transaction once so many seconds are over, 1 to 86400 [default: 10, or with --transactions no end]",
+            help: "Begin no transaction after so many seconds, 1 to 86400 [default: 10, or with --transactions no end]",
         },
         Word {
             name: "transactions",
@@ -714,7 +791,7 @@ Example: jbench bench log home --seconds 10 --copies 4",
             name: "wait",
             value: "SECONDS",
             is_option: true,
-            help: "Wait so long for a file that another program has, 1 to 86400 [default: not at all]",
+            help: "Wait at most so long for a file that another program has, 1 to 86400 [default: not at all]",
         },
     ],
 };
@@ -723,18 +800,24 @@ pub(crate) const SERVE: Usage = Usage {
     name: "serve",
     about: "Serves the home area of a log as a block device over NBD, on standard input and output, to one client",
     after_help: "\
-The log is opened as by recover. The client speaks on standard input and output, which may be a socket: libnbd starts the server by
-itself, systemd and inetd for each connection. It ends with its client; then all that was written is committed, and the log is
-left clean. Messages go to standard error.
+The log is opened as by recover. The client speaks on standard input and output,
+which may be a socket. libnbd starts the server by itself; systemd and inetd
+start one for each connection. The server ends with its client. Then all that
+was written is committed, and the log is left clean. Messages go to standard
+error.
 
-A write is there whole after a crash, or not at all, where it lies in no more blocks than a transaction can have: about a quarter of
-the log; the export's description says how many. A longer one is several such writes, in order. A flush that was answered, and a write
-with FUA, is durable. docs/BLOCK-DEVICE.md says how to connect to it.
+A write of no more blocks than a transaction can have is there whole after a
+crash, or not at all. That is about a quarter of the log; the export's
+description says how many blocks. A longer one is several such writes, in order.
+What was answered before a flush was sent is durable once the flush is answered.
+So is an answered write with FUA. docs/BLOCK-DEVICE.md says how to connect.
 
-Exit status: 0 the client ended between two requests; 1 refused: the words, a file, the log, or the device; or the client ended within a
-request, could not be read or written, or sent what is no NBD.
+Exit status: 0 the client ended between two requests; 1 refused: the words, a
+file, the log, or the device; or the client ended within a request, could not be
+read or written, or sent no NBD.
 
-Example: nbdsh -c 'h.connect_command([\"jbench\", \"serve\", \"log\", \"home\"])' -c 'print(h.get_size())'",
+Example:
+  nbdsh -c 'h.connect_command([\"jbench\", \"serve\", \"log\", \"home\"])' -c 'print(h.get_size())'",
     words: &[
         Word {
             name: "log",
@@ -764,16 +847,17 @@ Example: nbdsh -c 'h.connect_command([\"jbench\", \"serve\", \"log\", \"home\"])
             name: "wait",
             value: "SECONDS",
             is_option: true,
-            help: "Wait so long for a file that another program has, 1 to 86400 [default: not at all]",
+            help: "Wait at most so long for a file that another program has, 1 to 86400 [default: not at all]",
         },
     ],
 };
 
 pub(crate) const COMPLETIONS: Usage = Usage {
     name: "completions",
-    about: "Prints what a shell is told so that it completes the words of jbench",
+    about: "Prints what a shell needs to complete the words of jbench",
     after_help: "\
-bash and fish take it as it is, zsh behind compinit. Where jbench is no word of the shell, give it a place in PATH first.
+bash and fish take it as it is, zsh after compinit. The shell must find jbench
+in PATH.
 
 Exit status: 0 done; 1 refused: the words.
 

@@ -46,7 +46,7 @@ fn advice_of_operation(e: JournalError) -> &'static str {
             "the handle's transaction takes nothing more: stop the handle, and start another one"
         }
         JournalError::BadBlock => {
-            "the home area has no such block: jbench check SCRIPT and the length of HOME say which there are"
+            "the home area has no such block: the length of HOME, or home of the script, says how many it has"
         }
         JournalError::NotDirect => {
             "the log may still bring home an older copy of that block: write it by a handle, or revoke it and commit first"

@@ -180,7 +180,7 @@ start 1 2 = 15
 write 1 9 = ok
 write 1 99 = refused 8 BadBlock
 | jbench: refusal 8 BadBlock
-  the home area has no such block: jbench check SCRIPT and the length of HOME say which there are
+  the home area has no such block: the length of HOME, or home of the script, says how many it has
 Refused",
     ),
     (
