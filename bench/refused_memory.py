@@ -20,7 +20,7 @@ starts try how many credits are held: one of just those that are left, and one o
 
 `threads` with two clients prints the seven lines of a run with ample memory, or nothing but `jbench: client I refused 1 Memory`; or the
 device of these clients fails, which is in memory too, and each that is refused then is refused `3 Aborted`; or the program itself is refused.
-Such clients are also a test of `thread_tests`, which looks at what came of them itself: one that was refused Memory ended alone, with
+Such clients are also a test of `service_tests`, which looks at what came of them itself: one that was refused Memory ended alone, with
 its handle stopped, and what is left opens to all receipts. A close that has to finish a commit is a test of `library_tests`: where it is
 refused Memory it has written nothing. Each is run where a --tests names the built tests of its crate, as `rt test` and `rt ci` leave them in
 its `out/`. Which request is the Kth depends on how the threads run, so each K is tried a few times.
@@ -363,7 +363,7 @@ def judge_test(refuser, name, test, cases, wanted, times):
         print(f"{name}: never came to this: {wanted}")
 
 
-JUDGES = {"library_tests_tests": judge_close, "thread_tests_tests": judge_clients}  # by the name of the program that has the test
+JUDGES = {"library_tests_tests": judge_close, "service_tests_tests": judge_clients}  # by the name of the program that has the test
 
 
 def tests_of(words):

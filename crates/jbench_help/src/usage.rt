@@ -369,7 +369,8 @@ pub(crate) const DUMP: Usage = Usage {
     after_help: "\
 The block size is the number at 0x0c of LOG if that is 1024, 2048 or 4096, else
 1024. LOG is not written. If the log is refused nothing is printed, except with
---damaged or --copy.
+--damaged or --copy. A log that an opening refuses with 21 Ahead is printed
+whole.
 
 With --damaged a log that is refused with 22 Damage is printed up to the damaged
 block: its complete transactions before that. The refusal follows on standard
@@ -467,20 +468,20 @@ pub(crate) const SHOW: Usage = Usage {
     after_help: "\
 Below a field that fails a test of an opening it prints the refusal, and what is
 wanted. Features have their names. The last lines say whether an opening takes
-the superblock. If a feature prevents that, they say what the owner of the log
-can do. If it is taken, they tell how many blocks of the ring are used and free,
-and the numbers of the oldest and newest transaction there. The block size is
-the number at 0x0c of LOG if that is 1024, 2048 or 4096, else 1024. LOG is not
-written.
+the superblock. If it does not, they may say what the owner of the log can do.
+If it does, they tell how many blocks of the ring are used and free, and the
+numbers of the oldest and newest transaction there; a line below names a damaged
+block after them. The block size is the number at 0x0c of LOG if that is 1024,
+2048 or 4096, else 1024. LOG is not written.
 
 With --json it prints one object instead of lines. \"log\" has \"blocks\" and
 \"blocksize\". \"superblock\" has the fields by their names, and
 \"s_feature_compat_names\" and so on, lists of the known names. \"failed\" is a list
-of objects with \"field\", \"refusal\" and \"wanted\". \"refusal\" is what the
-superblock alone comes to, or null: an opening may still refuse the log for its
-ring. \"advice\" is a list of lines on it. \"ring\" has the words of its line, and
-\"damaged\" the block of the line below it; or it is null. A refusal has \"number\"
-and \"name\".
+of objects with \"field\", \"refusal\" and \"wanted\". \"refusal\" is that of the
+superblock alone, or null: an opening may still refuse the log for its ring.
+\"advice\" is a list of lines on it. \"ring\" has the words of its line, and as
+\"damaged\" the block of the line below, if there is one; it is null if the
+superblock is refused. A refusal has \"number\" and \"name\".
 
 Exit status: 0 done, whatever the superblock is; 1 refused: the words, the file,
 or a log without a whole block.
@@ -540,10 +541,10 @@ many blocks of HOME it would write. The second line of --before-damage follows.
 
 With --json it prints one object instead of lines. \"outcome\" is clean, recovered
 or would recover. The other words of that line have their numbers, and \"next\" is
-null for none. Of the second line, if there is one, it has \"first\" and \"last\",
-the numbers A and B, both absent for 'no transactions', and \"stopped_by\", an
-object with \"number\", \"name\" and \"place\"; with --dry-run also \"advice\", a list
-of lines on that.
+null for none. The second line, if there is one, gives \"stopped_by\", an object
+with \"number\", \"name\" and \"place\". It gives \"first\" and \"last\", the numbers A
+and B, unless it says 'no transactions'. With --dry-run \"advice\" is a list of
+lines on that.
 
 Exit status: 0 done; 1 refused: the words, a file, or the log.
 
@@ -633,11 +634,11 @@ these must agree with the files. What one handle writes is there whole or not at
 all, whenever power fails. What a 'wait' or 'status' line shows committed is
 there.
 
-The first refused operation ends the work after its line, and so does a refusal
-to close. The journal is not closed then: what was committed stays in the log,
-and nothing of the running transaction is there. With --keep-going only an
-operation that is refused because a file failed ends the work; any other is
-printed with its refusal, and the work goes on.
+The first refused operation ends the work after its line, and so does a refused
+close. The journal is not closed then: what was committed stays in the log, and
+nothing of the running transaction is there. With --keep-going only an operation
+that is refused because a file failed ends the work; any other is printed with
+its refusal, and the work goes on.
 
 A commit for which the log has no room is refused, unless --make-room is given.
 Then what is committed goes home first, as by 'check', and the operation is done
@@ -717,8 +718,9 @@ pub(crate) const BENCH: Usage = Usage {
 The log is opened as by recover. Then transactions are committed one after the
 other, each by one handle that writes K blocks of HOME. HOME has K parts of the
 same length, and each gets a block, at a place that the generator xoshiro256++
-draws from the seed 1. What these blocks held is lost. If the ring has no room
-for a transaction, a checkpoint round comes first. The journal is closed at the
+draws from the seed 1. What these blocks held is lost. Once half of the ring or
+640 blocks are taken, a part of a checkpoint round follows each commit. If the
+ring still has no room, whole rounds come first. The journal is closed at the
 end.
 
 With --threads N clients do so at once over one journal, with the seeds 1 to N,
@@ -730,16 +732,17 @@ handles each had.
 
 It prints how many transactions and blocks were durable, in which time from the
 opened log to the last commit, and how many a second. Then it prints the
-nanoseconds that a commit took, from its request until it was durable, with the
-rounds that it needed: the median, what 99 of 100 did not exceed, and the most.
-Then it prints how many reads and writes of one block, and how many flushes,
-each area got, with those of the opening and of the close. On a terminal it says
-on standard error each second how many transactions are durable so far, and how
-many a second that is. If it is interrupted these figures are all.
+nanoseconds that a commit took, from its request until its client went on, with
+the rounds made meanwhile: the median, what 99 of 100 did not exceed, and the
+most. Then it prints how many reads and writes of one block, and how many
+flushes, each area got, with those of the opening and of the close. On a
+terminal it says on standard error each second how many transactions are durable
+so far, and how many a second that is. If it is interrupted these figures are
+all.
 
 With --csv it prints two lines with commas instead, the names of the columns and
-their values. They have also the times that 1, 5, 10, 25, 50, 75, 90, 95 and 99
-of 100 commits did not exceed.
+their values. The columns also have the times that 1, 5, 10, 25, 50, 75, 90, 95
+and 99 of 100 commits did not exceed.
 
 Exit status: 0 done; 1 refused: the words, a file, the log, or the device.
 
@@ -779,7 +782,7 @@ Example: jbench bench log home --seconds 10 --copies 4",
             name: "threads",
             value: "N",
             is_option: true,
-            help: "Let N clients commit at once, 1 to 64, each in a thread of its own [default: one, in no thread]",
+            help: "Let N clients commit at once over one journal, 1 to 64, all but one in threads [default: one, over the journal of one thread]",
         },
         Word {
             name: "csv",
@@ -803,8 +806,8 @@ pub(crate) const SERVE: Usage = Usage {
 The log is opened as by recover. The client speaks on standard input and output,
 which may be a socket. libnbd starts the server by itself; systemd and inetd
 start one for each connection. The server ends with its client. Then all that
-was written is committed, and the log is left clean. Messages go to standard
-error.
+was written is committed, and the log is left clean, unless the device or memory
+failed. Messages go to standard error.
 
 A write of no more blocks than a transaction can have is there whole after a
 crash, or not at all. That is about a quarter of the log; the export's

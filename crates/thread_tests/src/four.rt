@@ -2,7 +2,8 @@
 //! the record.
 ghost use Rattle.std.specs.Prelude.{◌≡◌};
 
-use crate::journals::{expect, unnamed_on};
+use crate::expected::expect;
+use crate::journals::unnamed_on;
 use block_device::{Device, MemDevice};
 use journal_model::{Area, BlockNo, HandleNo, JournalError, Op, Sealed, Step};
 use shared_journal::{Handle, Journal, JournalName, Parts, Record, Seat, Ticket, UnnamedJournal};

@@ -2,7 +2,8 @@
 //! thread waits for the engine.
 ghost use Rattle.std.specs.Prelude.{◌≡◌};
 
-use crate::journals::{expect, unnamed_on};
+use crate::expected::expect;
+use crate::journals::unnamed_on;
 use block_device::{Device, DeviceFault};
 use journal_model::{Area, BlockNo, JournalError};
 use shared_journal::{CheckTurn, Journal, JournalName, Seat, Ticket, Turn, UnnamedJournal};

@@ -1,19 +1,16 @@
-//! Shared journals on logs that are opened, and what a test expects of them.
+//! Shared journals on logs that are opened.
 use block_device::Device;
 use journal_model::JournalError;
 use recovery::Opened;
 use shared_journal::{Record, UnnamedJournal, create};
 use std::alloc::Global;
-use std::fmt::Debug;
-use std::process::Abort;
 use test_logs::opened;
 
-/// Asserts that both are equal.
-pub fn expect<T: PartialEq + Debug>(rt: &impl Abort, told: &T, expected: &T) {
-    assert_eq!(rt; told, expected);
-}
-
 /// An unnamed shared journal on an opened log.
+///
+/// # Errors
+///
+/// Those of `shared_journal::create`. The opened log is dropped.
 pub fn create_on<D: Device + Drop, K: Record>(
     alloc: Global,
     opened: Opened<D>,
@@ -25,6 +22,10 @@ pub fn create_on<D: Device + Drop, K: Record>(
 }
 
 /// An unnamed shared journal on the log of a device.
+///
+/// # Errors
+///
+/// Those of `recovery::open` and `shared_journal::create`. The device is dropped.
 pub fn unnamed_on<D: Device + Drop, K: Record>(
     alloc: Global,
     device: D,

@@ -1,24 +1,20 @@
-//! Tests of the journal that threads share, and of what stands on it. They call public functions alone, so that no other library is proved
-//! again for them.
+//! Tests of the journal that threads share. They call public functions alone, so that no other library is proved again for them.
+//! `journals` is for the tests of services too.
 #![tactic(auto)]
 
+pub mod journals;
+
 #[cfg(test)]
-mod example;
+mod expected;
 #[cfg(test)]
 mod four;
 #[cfg(test)]
 mod held;
 #[cfg(test)]
-mod journals;
-#[cfg(test)]
 mod newest;
 #[cfg(test)]
 mod reopened;
 #[cfg(test)]
-mod service;
-#[cfg(test)]
 mod threads;
-#[cfg(test)]
-mod timed;
 #[cfg(test)]
 mod waiting;

@@ -1,7 +1,8 @@
 //! The log of a shared journal, opened again after its close.
 ghost use Rattle.std.specs.Prelude.{◌≡◌};
 
-use crate::journals::{expect, unnamed_on};
+use crate::expected::expect;
+use crate::journals::unnamed_on;
 use block_device::{Device, MemDevice};
 use journal_model::{Area, BlockNo, JournalError, Sealed, Tid};
 use shared_journal::{Journal, JournalName, Record, Seat, UnnamedJournal};

@@ -1,7 +1,8 @@
 //! Two threads that share one journal, over a device in memory and over files.
 ghost use Rattle.std.specs.Prelude.{◌≡◌};
 
-use crate::journals::{expect, unnamed_on};
+use crate::expected::expect;
+use crate::journals::unnamed_on;
 use block_device::{Device, MemDevice};
 use file_device::{FileDevice, UnknownContents};
 use journal_model::BlockNo;

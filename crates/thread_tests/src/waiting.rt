@@ -1,7 +1,8 @@
 //! Calls that wait for credits, a seal or a commit, while another thread takes commit turns; and over a device that fails.
 ghost use Rattle.std.specs.Prelude.{◌≡◌};
 
-use crate::journals::{expect, unnamed_on};
+use crate::expected::expect;
+use crate::journals::unnamed_on;
 use block_device::{Device, StopAt};
 use journal_model::{BlockNo, JournalError, Tid};
 use shared_journal::{Handle, Journal, JournalName, Seat, Turn, UnnamedJournal};

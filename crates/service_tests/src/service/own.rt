@@ -2,7 +2,7 @@
 ghost use Rattle.std.specs.Prelude.{◌≡◌};
 
 use super::LOG_BLOCKS;
-use crate::journals::{expect, unnamed_on};
+use crate::expected::expect;
 use block_device::{Device, MemDevice};
 use journal_model::{BlockNo, JournalError};
 use shared_journal::{JournalName, Record, UnnamedJournal};
@@ -12,6 +12,7 @@ use std::sync::Wait;
 use std::test::Fail;
 use std::thread::Threads;
 use test_logs::formatted;
+use thread_tests::journals::unnamed_on;
 use volume_service::{Client, Gate, OpenGate, Session, serve_clients};
 
 /// Writes a block and revokes the next, writes that through a second handle and waits for it, and reads the first block.

@@ -1,4 +1,4 @@
-use Rattle.thread_tests.proofs.service.refused.a_client_without_memory_ends_alone.Given as goal
+use Rattle.service_tests.proofs.service.refused.a_client_without_memory_ends_alone.Given as goal
 
 -- the name is the unnamed journal's
 abbrev pub ghosts-try_run : goal.ghosts-try_run

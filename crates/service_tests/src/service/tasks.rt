@@ -1,7 +1,7 @@
 //! Tasks over a device in memory: what a flush answers and leaves, alone and beside others; and the commit of handles that nobody waits
 //! for.
 use super::LOG_BLOCKS;
-use crate::journals::{expect, unnamed_on};
+use crate::expected::expect;
 use block_device::{Device, MemDevice};
 use journal_model::{BlockNo, JournalError, Status, Tid};
 use shared_journal::{JournalName, Record, Ticket, Unrecorded};
@@ -11,6 +11,7 @@ use std::test::Fail;
 use std::thread;
 use std::thread::Threads;
 use test_logs::formatted;
+use thread_tests::journals::unnamed_on;
 use volume_service::{Gate, OpenGate, Session, Task, do_tasks};
 
 /// Blocks of home.
@@ -226,7 +227,7 @@ fn a_task_commits_in_its_own_thread_over_several_laps(rt: HostRuntime) -> Result
     let Ok((told, committed, closed)) = run(&rt, rt.alloc(), &[Job::Leads]) else {
         return Err("the task is not run".into());
     };
-    let last = Tid(HANDLES + 1);
+    let last = Tid(HANDLES as u32 + 1);
     expect(&rt, &told.first(), &Some(&Ok(([last, last, last], true))));
     expect(&rt, &(committed, closed), &(HANDLES, true));
     Ok(())

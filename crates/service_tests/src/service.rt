@@ -6,7 +6,7 @@ mod own;
 mod refused;
 mod tasks;
 
-use crate::journals::{create_on, expect, unnamed_on};
+use crate::expected::expect;
 use block_device::{Device, FailOnce, MemDevice};
 use gates::{Meeting, Overtaking};
 use journal_model::{Block, BlockNo, JournalError, Sealed, Tid};
@@ -18,6 +18,7 @@ use std::sync::Wait;
 use std::test::Fail;
 use std::thread::Threads;
 use test_logs::{BLOCK_SIZE, formatted, opened};
+use thread_tests::journals::{create_on, unnamed_on};
 use volume_service::{
     ClientOutcome, Gate, HandlePlan, HeldDevice, OpenGate, Outcome, Service, Touch,
 };

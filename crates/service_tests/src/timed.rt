@@ -1,5 +1,5 @@
 //! The command `bench` with clients in threads, over a device in memory, also a failing one.
-use crate::journals::expect;
+use crate::expected::expect;
 use block_device::{Device, FailOnce, MemDevice};
 use commit_times::threads::bench;
 use jbench_words::watch::Unwatched;

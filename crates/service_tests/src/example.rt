@@ -1,6 +1,6 @@
 //! The example of threads over a device in memory.
 
-use crate::journals::expect;
+use crate::expected::expect;
 use block_device::MemDevice;
 use std::test::Fail;
 

@@ -1,4 +1,4 @@
-use Rattle.thread_tests.proofs.service.own.run_on.Given as goal
+use Rattle.service_tests.proofs.service.own.run_on.Given as goal
 
 -- the name is the unnamed journal's
 abbrev pub ghosts-look : goal.ghosts-look
