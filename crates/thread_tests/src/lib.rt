@@ -2,14 +2,13 @@
 //! `journals` is for the tests of services too.
 #![tactic(auto)]
 
-pub mod journals;
-
 #[cfg(test)]
 mod expected;
 #[cfg(test)]
 mod four;
 #[cfg(test)]
 mod held;
+pub mod journals;
 #[cfg(test)]
 mod newest;
 #[cfg(test)]
