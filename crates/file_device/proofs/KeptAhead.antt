@@ -1,6 +1,6 @@
--- Lemmas: blocks that were read ahead are what the log reads.
+-- Lemmas: blocks that were read ahead are what their area reads.
 use Rattle.std.proofs.Common.{◌≡◌, ℕ, zero, suc, ◌<◌, ◌≤◌, ◌*◌, ◌/◌, ◌+◌, ◌-◌, List, [], ◌∷◌, ◌++◌, length, ap, refl, sym, subst, ◌∙◌, inl, inr, arith}
-use Rattle.std.specs.Prelude.{◌⊎◌, Bool, true, false, IsTrue, min, Result, Ok, Err, OnOk, OnErr}
+use Rattle.std.specs.Prelude.{◌⊎◌, ◌&&◌, ◌==◌, if◌then◌else◌, Bool, true, false, IsTrue, min, Result, Ok, Err, OnOk, OnErr}
 use Rattle.block_device.specs.State.{DeviceState, Stays, blocks_in}
 use Rattle.std.specs.List.{AllByRecursion}
 use Rattle.std.proofs.lemmas.List.{append_assoc, length-append}
@@ -9,14 +9,14 @@ use Rattle.std.proofs.lemmas.Nat.{mul-le}
 use Rattle.journal_model.specs.declared.number.Area.{Area}
 use Rattle.journal_model.specs.declared.number.Area.TheVariants.{Log, Home}
 use Rattle.file_device.specs.declared.ahead.Ahead.{Ahead}
-use Rattle.journal_model.specs.Disk.{Cell}
+use Rattle.journal_model.specs.Disk.{Cell, held, same_area}
 use Rattle.file_device.specs.Ahead.{HasFailedRead, HasRead, IsForgotten, IsReading, KeepsAhead}
 use Rattle.file_device.specs.Blocks.{block_of, reads_of, writes_of}
 use Rattle.file_device.specs.Gathered.{HoldsSame, IsFreeOf, IsPushed, KeepsGathered, due_of}
 use Rattle.file_device.specs.declared.gathered.Gathered.{Gathered}
 use Rattle.file_device.proofs.GatheredBlocks.{agreed-before, apart-cell, block-within, either, free-apart, over-same, place-of, pushed-due, same-due, writes-agree}
 use Rattle.file_device.specs.Calls.{FileCall, Measured, Read, ReadFailed, Wrote, WriteFailed, GatheredFailed, Synced, SyncFailed}
-use Rattle.file_device.specs.Files.{AgreesEach, FileContents, FileMoments, FileState, HandsBlock, HasAgreed, KeepsBlocks, after_call, after_calls, asked_calls, counted, file_state, files_disk}
+use Rattle.file_device.specs.Files.{AgreesEach, FileContents, FileMoments, FileState, HandsBlock, HasAgreed, KeepsBlocks, after_call, after_calls, asked_calls, bytes_in, counted, file_shape, file_state, files_disk}
 
 -- a read leaves the disk
 reading-leaves : (contents : FileContents) (size : ℕ) (m : FileMoments) (c : FileCall) → IsReading c → after_call contents size m c ≡ m
@@ -42,24 +42,24 @@ reads-ask area at size bytes zero = tt
 reads-ask area at size bytes (suc k) = (tt, reads-ask area at size bytes k)
 
 -- the last block that was read ahead, or one before it
-last-or-before : (contents : FileContents) (size : ℕ) (calls : List FileCall) (n : ℕ) (bytes : List ℕ) (m : ℕ) → 0 < size → (k : ℕ) →
-    AgreesEach contents size (reads_of Log (n * size) size bytes (suc m) ++ calls) →
-    (k < m → block_of size bytes k ≡ ((after_calls contents size calls).disk Log (n + k)).reads) →
-    (k ≡ m) ⊎ (k < m) → block_of size bytes k ≡ ((after_calls contents size calls).disk Log (n + k)).reads
-last-or-before contents size calls n bytes m some k agrees before (inl is) =
-    let here : FileMoments = after_calls contents size (reads_of Log (n * size) size bytes m ++ calls) in
-    let same : here ≡ after_calls contents size calls = readings-leave contents size (reads_of Log (n * size) size bytes m) calls (reads-ask Log (n * size) size bytes m) in
+last-or-before : (contents : FileContents) (size : ℕ) (calls : List FileCall) (area : Area) (n : ℕ) (bytes : List ℕ) (m : ℕ) → 0 < size → (k : ℕ) →
+    AgreesEach contents size (reads_of area (n * size) size bytes (suc m) ++ calls) →
+    (k < m → block_of size bytes k ≡ ((after_calls contents size calls).disk area (n + k)).reads) →
+    (k ≡ m) ⊎ (k < m) → block_of size bytes k ≡ ((after_calls contents size calls).disk area (n + k)).reads
+last-or-before contents size calls area n bytes m some k agrees before (inl is) =
+    let here : FileMoments = after_calls contents size (reads_of area (n * size) size bytes m ++ calls) in
+    let same : here ≡ after_calls contents size calls = readings-leave contents size (reads_of area (n * size) size bytes m) calls (reads-ask area (n * size) size bytes m) in
     ap (block_of size bytes) is ∙ agrees.0
-    ∙ ap (λ (p : ℕ). (here.disk Log p).reads) (place-of n m size some ∙ ap (λ (j : ℕ). n + j) (sym is))
-    ∙ ap (λ (x : FileMoments). (x.disk Log (n + k)).reads) same
-last-or-before contents size calls n bytes m some k agrees before (inr less) = before less
+    ∙ ap (λ (p : ℕ). (here.disk area p).reads) (place-of n m size some ∙ ap (λ (j : ℕ). n + j) (sym is))
+    ∙ ap (λ (x : FileMoments). (x.disk area (n + k)).reads) same
+last-or-before contents size calls area n bytes m some k agrees before (inr less) = before less
 
--- if all reads agreed, each block that was read ahead is what the log reads
-pub ahead-reads : (contents : FileContents) (size : ℕ) (calls : List FileCall) (n : ℕ) (bytes : List ℕ) (count : ℕ) → 0 < size → (k : ℕ) → k < count →
-    AgreesEach contents size (reads_of Log (n * size) size bytes count ++ calls) → block_of size bytes k ≡ ((after_calls contents size calls).disk Log (n + k)).reads
-ahead-reads contents size calls n bytes zero some k none agrees = absurd (omega arith)
-ahead-reads contents size calls n bytes (suc m) some k below agrees =
-    last-or-before contents size calls n bytes m some k agrees (λ less. ahead-reads contents size calls n bytes m some k less agrees.1) (either k m (omega arith))
+-- if all reads agreed, each block that was read ahead is what its area reads
+pub ahead-reads : (contents : FileContents) (size : ℕ) (calls : List FileCall) (area : Area) (n : ℕ) (bytes : List ℕ) (count : ℕ) → 0 < size → (k : ℕ) → k < count →
+    AgreesEach contents size (reads_of area (n * size) size bytes count ++ calls) → block_of size bytes k ≡ ((after_calls contents size calls).disk area (n + k)).reads
+ahead-reads contents size calls area n bytes zero some k none agrees = absurd (omega arith)
+ahead-reads contents size calls area n bytes (suc m) some k below agrees =
+    last-or-before contents size calls area n bytes m some k agrees (λ less. ahead-reads contents size calls area n bytes m some k less agrees.1) (either k m (omega arith))
 
 -- kept blocks stay right after reads, whatever is gathered
 pub kept-under : (contents : FileContents) (size : ℕ) (g : Gathered) (more calls : List FileCall) (a : Ahead) → AllByRecursion IsReading more → KeepsAhead contents size (due_of size g ++ calls) a →
@@ -70,22 +70,31 @@ kept-under contents size g more calls a all keeps =
       fits = keeps.fits;
       reads = λ k below agrees.
           keeps.reads k below (writes-agree contents g.area (g.first * size) size g.bytes.items g.count calls (agreed-before contents size more calls (agreed-before contents size due (more ++ calls) agrees)))
-          ∙ ap (λ (x : FileMoments). (x.disk Log (a.first + k)).reads) (sym (over-same contents size due (more ++ calls) calls (readings-leave contents size more calls all)));
+          ∙ ap (λ (x : FileMoments). (x.disk a.area (a.first + k)).reads) (sym (over-same contents size due (more ++ calls) calls (readings-leave contents size more calls all)));
     }
 
--- and also over gathered blocks of home
-pub kept-over : (contents : FileContents) (size : ℕ) (g : Gathered) (calls : List FileCall) (a : Ahead) → 0 < size → IsFreeOf g Log → KeepsAhead contents size calls a →
+-- and also over gathered blocks of the other area
+pub kept-over : (contents : FileContents) (size : ℕ) (g : Gathered) (calls : List FileCall) (a : Ahead) → 0 < size → IsFreeOf g a.area → KeepsAhead contents size calls a →
     KeepsAhead contents size (due_of size g ++ calls) a
 kept-over contents size g calls a some free keeps = record {
   fits = keeps.fits;
   reads = λ k below agrees.
       keeps.reads k below (agreed-before contents size (due_of size g) calls agrees)
-      ∙ ap (λ (c : Cell). c.reads) (sym (apart-cell contents size calls g.area g.first g.bytes.items g.count some Log (a.first + k) (free-apart g Log (a.first + k) free)));
+      ∙ ap (λ (c : Cell). c.reads) (sym (apart-cell contents size calls g.area g.first g.bytes.items g.count some a.area (a.first + k) (free-apart g a.area (a.first + k) free)));
 }
 
--- a write to home, and a failed write of gathered blocks, keep them right
-pub kept-home : (contents : FileContents) (size : ℕ) (calls : List FileCall) (a : Ahead) (at : ℕ) (bytes : List ℕ) → KeepsAhead contents size calls a → KeepsAhead contents size (Wrote Home at bytes ∷ calls) a
-kept-home contents size calls a at bytes keeps = record { fits = keeps.fits; reads = λ k below agrees. keeps.reads k below agrees.1 }
+-- a write to the other area, and a failed write of gathered blocks, keep them right
+kept-other : (contents : FileContents) (size : ℕ) (calls : List FileCall) (a : Ahead) (area : Area) (at : ℕ) (bytes : List ℕ) → same_area a.area area ≡ false → KeepsAhead contents size calls a →
+    KeepsAhead contents size (Wrote area at bytes ∷ calls) a
+kept-other contents size calls a area at bytes other keeps =
+    let before : FileMoments = after_calls contents size calls in
+    let cell : Cell = record { reads = bytes; others = held (before.disk area (at / size)) } in
+    record {
+      fits = keeps.fits;
+      reads = λ k below agrees.
+          keeps.reads k below agrees.1
+          ∙ ap (λ (b : Bool). (if b && (a.first + k == at / size) then cell else before.disk a.area (a.first + k)).reads) (sym other);
+    }
 
 pub kept-failed : (contents : FileContents) (size : ℕ) (g : Gathered) (calls : List FileCall) (a : Ahead) (area : Area) (at : ℕ) (bytes : List ℕ) → KeepsAhead contents size (due_of size g ++ calls) a →
     KeepsAhead contents size (due_of size g ++ (GatheredFailed area at bytes ∷ calls)) a
@@ -96,25 +105,35 @@ kept-failed contents size g calls a area at bytes keeps =
       fits = keeps.fits;
       reads = λ k below agrees.
           keeps.reads k below (writes-agree contents g.area (g.first * size) size g.bytes.items g.count calls (agreed-before contents size due failed agrees).1)
-          ∙ ap (λ (x : FileMoments). (x.disk Log (a.first + k)).reads) (sym (over-same contents size due failed calls refl));
+          ∙ ap (λ (x : FileMoments). (x.disk a.area (a.first + k)).reads) (sym (over-same contents size due failed calls refl));
     }
 
 -- if none is kept, all kept blocks are right
 pub kept-none : (contents : FileContents) (size : ℕ) (calls : List FileCall) (a : Ahead) → a.count ≡ 0 → KeepsAhead contents size calls a
 kept-none contents size calls a none = record { fits = rw none (omega arith); reads = λ k below agrees. absurd (omega arith) }
 
--- kept blocks are right after a write, which drops those of the log
+-- kept blocks are right after a write, which drops those of its area
+wrote-where : (contents : FileContents) (size : ℕ) (calls : List FileCall) (area : Area) (at : ℕ) (bytes : List ℕ) (old new : Ahead) (same : Bool) → same_area old.area area ≡ same →
+    new ≡ (if same then record old { count = 0 } else old) → KeepsAhead contents size calls old → KeepsAhead contents size (Wrote area at bytes ∷ calls) new
+wrote-where contents size calls area at bytes old new true whose is keeps =
+    subst (KeepsAhead contents size (Wrote area at bytes ∷ calls)) (sym is) (kept-none contents size (Wrote area at bytes ∷ calls) (record old { count = 0 }) refl)
+wrote-where contents size calls area at bytes old new false whose is keeps =
+    subst (KeepsAhead contents size (Wrote area at bytes ∷ calls)) (sym is) (kept-other contents size calls old area at bytes whose keeps)
+
 pub forgotten-wrote : (contents : FileContents) (size : ℕ) (calls : List FileCall) (area : Area) (at : ℕ) (bytes : List ℕ) (old new : Ahead) → IsForgotten area old new → KeepsAhead contents size calls old →
     KeepsAhead contents size (Wrote area at bytes ∷ calls) new
-forgotten-wrote contents size calls Log at bytes old new is keeps =
-    subst (KeepsAhead contents size (Wrote Log at bytes ∷ calls)) (sym is) (kept-none contents size (Wrote Log at bytes ∷ calls) (record old { count = 0 }) refl)
-forgotten-wrote contents size calls Home at bytes old new is keeps =
-    subst (KeepsAhead contents size (Wrote Home at bytes ∷ calls)) (sym is) (kept-home contents size calls old at bytes keeps)
+forgotten-wrote contents size calls area at bytes old new is keeps =
+    wrote-where contents size calls area at bytes old new (same_area old.area area) refl is keeps
+
+-- and without one
+kept-where : (contents : FileContents) (size : ℕ) (calls : List FileCall) (old new : Ahead) (same : Bool) → new ≡ (if same then record old { count = 0 } else old) →
+    KeepsAhead contents size calls old → KeepsAhead contents size calls new
+kept-where contents size calls old new true is keeps = subst (KeepsAhead contents size calls) (sym is) (kept-none contents size calls (record old { count = 0 }) refl)
+kept-where contents size calls old new false is keeps = subst (KeepsAhead contents size calls) (sym is) keeps
 
 pub forgotten-kept : (contents : FileContents) (size : ℕ) (calls : List FileCall) (area : Area) (old new : Ahead) → IsForgotten area old new → KeepsAhead contents size calls old →
     KeepsAhead contents size calls new
-forgotten-kept contents size calls Log old new is keeps = subst (KeepsAhead contents size calls) (sym is) (kept-none contents size calls (record old { count = 0 }) refl)
-forgotten-kept contents size calls Home old new is keeps = subst (KeepsAhead contents size calls) (sym is) keeps
+forgotten-kept contents size calls area old new is keeps = kept-where contents size calls old new (same_area old.area area) is keeps
 
 -- the end of a block fits in 64 bits
 pub small-place : (area : Area) (size log home n : ℕ) → log < 18446744073709551616 → home < 18446744073709551616 →
@@ -205,39 +224,39 @@ failed-kept contents size g calls cs a area at bytes noted keeps ahead =
     rw noted (record { some = keeps.some; whole = failed-hand size (due_of size g) calls area at bytes keeps.whole }, kept-failed contents size g calls a area at bytes ahead)
 
 -- blocks that were just read ahead are right
-pub kept-ahead : (contents : FileContents) (size : ℕ) (calls : List FileCall) (n : ℕ) (bytes : List ℕ) (count : ℕ) (a : Ahead) → 0 < size → length bytes ≡ count * size →
-    a.bytes.items ≡ bytes → a.first ≡ n → a.count ≡ count → KeepsAhead contents size (reads_of Log (n * size) size bytes (length bytes / size) ++ calls) a
-kept-ahead contents size calls n bytes count a some long is_bytes is_first is_count =
+pub kept-ahead : (contents : FileContents) (size : ℕ) (calls : List FileCall) (area : Area) (n : ℕ) (bytes : List ℕ) (count : ℕ) (a : Ahead) → 0 < size → length bytes ≡ count * size →
+    a.bytes.items ≡ bytes → a.area ≡ area → a.first ≡ n → a.count ≡ count → KeepsAhead contents size (reads_of area (n * size) size bytes (length bytes / size) ++ calls) a
+kept-ahead contents size calls area n bytes count a some long is_bytes is_area is_first is_count =
     let number : length bytes / size ≡ count = ap (λ (p : ℕ). p / size) long ∙ mul-div_cancel count some in
-    let asked : List FileCall = reads_of Log (n * size) size bytes (length bytes / size) in
+    let asked : List FileCall = reads_of area (n * size) size bytes (length bytes / size) in
     record {
       fits = rw (is_count, is_bytes) (omega (arith, long));
       reads = λ k below agrees.
           let less : k < count = subst (λ (m : ℕ). k < m) is_count below in
-          rw (is_bytes, is_first) (
-          ahead-reads contents size calls n bytes (length bytes / size) some k (rw number less) agrees
-          ∙ ap (λ (x : FileMoments). (x.disk Log (n + k)).reads) (sym (readings-leave contents size asked calls (reads-ask Log (n * size) size bytes (length bytes / size))))
+          rw (is_bytes, is_area, is_first) (
+          ahead-reads contents size calls area n bytes (length bytes / size) some k (rw number less) agrees
+          ∙ ap (λ (x : FileMoments). (x.disk area (n + k)).reads) (sym (readings-leave contents size asked calls (reads-ask area (n * size) size bytes (length bytes / size))))
           );
     }
 
 -- the invariant holds after reading ahead
-pub read-ahead-kept : (contents : FileContents) (size : ℕ) (g : Gathered) (calls cs : List FileCall) (n at count : ℕ) (a : Ahead) (bytes : List ℕ) → IsFreeOf g Log → KeepsBlocks size (due_of size g ++ calls) → at ≡ n * size →
-    length bytes ≡ count * size → cs ≡ reads_of Log at size bytes (length bytes / size) ++ calls → a.bytes.items ≡ bytes → a.first ≡ n → a.count ≡ count →
+pub read-ahead-kept : (contents : FileContents) (size : ℕ) (g : Gathered) (calls cs : List FileCall) (area : Area) (n at count : ℕ) (a : Ahead) (bytes : List ℕ) → IsFreeOf g area → KeepsBlocks size (due_of size g ++ calls) → at ≡ n * size →
+    length bytes ≡ count * size → cs ≡ reads_of area at size bytes (length bytes / size) ++ calls → a.bytes.items ≡ bytes → a.area ≡ area → a.first ≡ n → a.count ≡ count →
     KeepsBlocks size (due_of size g ++ cs) × KeepsAhead contents size (due_of size g ++ cs) a
-read-ahead-kept contents size g calls cs n at count a bytes free keeps place whole noted is_bytes is_first is_count =
-    let asked : List FileCall = reads_of Log (n * size) size bytes (length bytes / size) in
+read-ahead-kept contents size g calls cs area n at count a bytes free keeps place whole noted is_bytes is_area is_first is_count =
+    let asked : List FileCall = reads_of area (n * size) size bytes (length bytes / size) in
     rw (noted, place) (
-      record { some = keeps.some; whole = hand-under size (due_of size g) asked calls (reads-ask Log (n * size) size bytes (length bytes / size)) keeps.whole },
-      kept-over contents size g (asked ++ calls) a keeps.some free (kept-ahead contents size calls n bytes count a keeps.some whole is_bytes is_first is_count),
+      record { some = keeps.some; whole = hand-under size (due_of size g) asked calls (reads-ask area (n * size) size bytes (length bytes / size)) keeps.whole },
+      kept-over contents size g (asked ++ calls) a keeps.some (rw is_area free) (kept-ahead contents size calls area n bytes count a keeps.some whole is_bytes is_area is_first is_count),
     )
 
 -- and after reading ahead failed
-pub failed-ahead-kept : (contents : FileContents) (size : ℕ) (g : Gathered) (calls cs : List FileCall) (at : ℕ) (a : Ahead) → KeepsBlocks size (due_of size g ++ calls) →
-    cs ≡ ReadFailed Log at ∷ calls → a.count ≡ 0 → KeepsBlocks size (due_of size g ++ cs) × KeepsAhead contents size (due_of size g ++ cs) a
-failed-ahead-kept contents size g calls cs at a keeps noted none =
+pub failed-ahead-kept : (contents : FileContents) (size : ℕ) (g : Gathered) (calls cs : List FileCall) (area : Area) (at : ℕ) (a : Ahead) → KeepsBlocks size (due_of size g ++ calls) →
+    cs ≡ ReadFailed area at ∷ calls → a.count ≡ 0 → KeepsBlocks size (due_of size g ++ cs) × KeepsAhead contents size (due_of size g ++ cs) a
+failed-ahead-kept contents size g calls cs area at a keeps noted none =
     rw noted (
-      record { some = keeps.some; whole = hand-under size (due_of size g) (ReadFailed Log at ∷ []) calls (tt, tt) keeps.whole },
-      kept-none contents size (due_of size g ++ (ReadFailed Log at ∷ calls)) a none,
+      record { some = keeps.some; whole = hand-under size (due_of size g) (ReadFailed area at ∷ []) calls (tt, tt) keeps.whole },
+      kept-none contents size (due_of size g ++ (ReadFailed area at ∷ calls)) a none,
     )
 
 -- a fact of each call of two lists holds of each call of both
@@ -247,18 +266,18 @@ all-append P (c ∷ more) calls all rest = (all.0, all-append P more calls all.1
 
 -- reads follow reads
 pub read-after : {old mid new : FileState} → HasRead old mid → HasRead mid new → HasRead old new
-read-after {old} {mid} {new} first then = record {
-  calls = then.calls ++ first.calls;
-  readings = all-append IsReading then.calls first.calls then.readings first.readings;
-  after = then.after ∙ ap (λ (s : FileState). record s { calls = then.calls ++ s.calls }) first.after
-      ∙ ap (λ (cs : List FileCall). record old { calls = cs }) (sym (append_assoc then.calls first.calls old.calls));
+read-after {old} {mid} {new} first later = record {
+  calls = later.calls ++ first.calls;
+  readings = all-append IsReading later.calls first.calls later.readings first.readings;
+  after = later.after ∙ ap (λ (s : FileState). record s { calls = later.calls ++ s.calls }) first.after
+      ∙ ap (λ (cs : List FileCall). record old { calls = cs }) (sym (append_assoc later.calls first.calls old.calls));
 }
 
 -- a failed read, at a block's place, follows reads
 pub failed-after : {old mid new : FileState} {area : Area} (n : ℕ) → HasRead old mid → HasFailedRead mid new area (n * mid.block_size) → HasFailedRead old new area (n * old.block_size)
-failed-after {old} {mid} {new} {area} n first then =
+failed-after {old} {mid} {new} {area} n first later =
     subst (λ (size : ℕ). HasFailedRead old new area (n * size)) (ap (λ (s : FileState). s.block_size) first.after)
-    (record { before = then.before; asked_before = read-after first then.asked_before; after = then.after })
+    (record { before = later.before; asked_before = read-after first later.asked_before; after = later.after })
 
 -- reads leave the disk
 pub read-leaves : (contents : FileContents) {old new : FileState} → HasRead old new → file_state contents new ≡ file_state contents old
@@ -271,6 +290,11 @@ read-leaves contents {old} {new} read =
 pub files-leave : (contents : FileContents) {old new : FileState} → HasRead old new → files_disk contents new ≡ files_disk contents old
 files-leave contents {old} {new} read =
     ap (files_disk contents) read.after ∙ ap (λ (m : FileMoments). m.disk) (readings-leave contents old.block_size read.calls old.calls read.readings)
+
+-- the blocks of an area by the length of its file
+pub blocks-are : (s : FileState) (area : Area) → blocks_in (file_shape s) area ≡ bytes_in s area / s.block_size
+blocks-are s Log = refl
+blocks-are s Home = refl
 
 -- whole blocks from a block's place on end within the file
 pub span-fits : (n size long room count at span : ℕ) → n < long / size → count ≡ min room (long / size - n) → at ≡ n * size → span ≤ count * size → at + span ≤ long

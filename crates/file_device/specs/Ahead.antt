@@ -1,8 +1,8 @@
--- Log blocks that were read before they were asked for. This project's own.
-use Rattle.std.specs.Prelude.{◌≡◌, ℕ, ◌+◌, ◌*◌, ◌<◌, ◌≤◌, List, ◌∷◌, ◌++◌, length, ⊤}
+-- Blocks that were read before they were asked for. This project's own.
+use Rattle.std.specs.Prelude.{◌≡◌, ℕ, ◌+◌, ◌*◌, ◌<◌, ◌≤◌, if◌then◌else◌, List, ◌∷◌, ◌++◌, length, ⊤}
 use Rattle.std.specs.List.{AllByRecursion}
 use Rattle.journal_model.specs.declared.number.Area.{Area}
-use Rattle.journal_model.specs.declared.number.Area.TheVariants.{Log, Home}
+use Rattle.journal_model.specs.Disk.{same_area}
 use Rattle.block_device.specs.State.{one_more_fault}
 use Rattle.file_device.specs.declared.ahead.Ahead.{Ahead}
 use Rattle.file_device.specs.Calls.{FileCall, Measured, Read, ReadFailed, Wrote, WriteFailed, GatheredFailed, Synced, SyncFailed}
@@ -32,13 +32,12 @@ pub record HasFailedRead (old new : FileState) (area : Area) (at : ℕ) : Type 0
   pub asked_before : HasRead old before
   pub after : new ≡ record before { calls = ReadFailed area at ∷ before.calls; faults = one_more_fault before.faults }
 
--- the bytes hold all kept blocks; each is what the log reads, if every read so far agreed
+-- the bytes hold all kept blocks; each is what its area reads, if every read so far agreed
 pub record KeepsAhead (contents : FileContents) (size : ℕ) (calls : List FileCall) (a : Ahead) : Type 0 where
   pub fits : a.count * size ≤ length a.bytes.items
   pub reads : (k : ℕ) → k < a.count → AgreesEach contents size calls →
-      block_of size a.bytes.items k ≡ ((after_calls contents size calls).disk Log (a.first + k)).reads
+      block_of size a.bytes.items k ≡ ((after_calls contents size calls).disk a.area (a.first + k)).reads
 
--- a write to the log drops the blocks read ahead; a write to home keeps them
+-- a write to the area of the blocks read ahead drops them; one to the other area keeps them
 abbrev pub IsForgotten : Area → Ahead → Ahead → Type 0
-IsForgotten Log old new = new ≡ record old { count = 0 }
-IsForgotten Home old new = new ≡ old
+IsForgotten area old new = new ≡ (if same_area old.area area then record old { count = 0 } else old)

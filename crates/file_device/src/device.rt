@@ -50,8 +50,8 @@ impl Contents for UnknownContents {
 /// Block `n` of an area starts at byte `n` times the block size of its file. An area has the whole blocks of its file; bytes after the last
 /// are never touched. Lengths are read once, when the device is made. A flush makes the area's file durable (fdatasync), if there is one.
 ///
-/// Reads: for a reader that goes over the log from block to block, leaving out a few at most, one system call fills a buffer of 64 KiB. A
-/// write to the log, and each flush, empties it.
+/// Reads: for a reader that goes over an area from block to block, leaving out a few at most, one system call fills a buffer of 64 KiB. A
+/// write to that area, and each flush, empties it.
 ///
 /// Writes: consecutive blocks of an area are gathered in a buffer of 64 KiB. One system call writes them when a write can't be gathered
 /// with them, either area is flushed, or the device is dropped. Each write to the log is gathered; one to home is if it follows the
@@ -188,39 +188,40 @@ impl<C: Contents> FileDevice<C> {
         self.failure.as_ref()
     }
 
-    /// Notes that block `n` of the log is asked for. Returns whether this step and the last were to a near block.
-    fn note_asked(&mut self, n: u64) -> bool
+    /// Notes that block `n` of an area is asked for. Returns whether this step and the last were to a near block.
+    fn note_asked(&mut self, area: Area, n: u64) -> bool
         ensures { self.new ≡ self.old }
     {
-        let is_near = self.ahead.is_near(n);
+        let is_near = self.ahead.is_near(area, n);
         let goes_on = is_near && self.ahead.is_steady;
+        self.ahead.next_area = area;
         self.ahead.next = n.saturating_add(1);
         self.ahead.is_steady = is_near;
         goes_on
     }
 
-    fn hand_out(&mut self, n: u64, into: &mut [u8]) -> bool
+    fn hand_out(&mut self, area: Area, n: u64, into: &mut [u8]) -> bool
         requires block { length into.old ≡ self.old.block_size }
         ensures same { self.new ≡ self.old }
-        ensures bytes { IsTrue result → HasAgreed C.contents self.new → into.new ≡ ((file_state C.contents self.new).disk Log n).reads }
+        ensures bytes { IsTrue result → HasAgreed C.contents self.new → into.new ≡ ((file_state C.contents self.new).disk area n).reads }
     {
-        let Some(k) = self.ahead.place(n) else {
+        let Some(k) = self.ahead.place(area, n) else {
             return false;
         };
         copy_block(&self.ahead.bytes, self.size, k, into);
         true
     }
 
-    /// Reads from block `n` of the log on as many blocks as the buffer holds; none if log blocks are gathered, or without memory.
-    fn read_ahead(&mut self, n: u64)
-        requires there { n < (file_shape self.old).log_blocks }
+    /// Reads from block `n` of an area on as many blocks as the buffer holds; none if blocks of the area are gathered, or without memory.
+    fn read_ahead(&mut self, area: Area, n: u64)
+        requires there { n < blocks_in (file_shape self.old) area }
         ensures { HasRead self.old self.new }
     {
-        if !self.gathered.is_free_of(Area::Log) {
+        if !self.gathered.is_free_of(area) {
             return;
         }
         let size = self.size;
-        let length = self.length(Area::Log);
+        let length = self.length(area);
         let room = (MOST_BYTES / size) as u64;
         let count = room.min(length / size as u64 - n);
         let at = place_of(n, size, length);
@@ -229,33 +230,34 @@ impl<C: Contents> FileDevice<C> {
         if ahead.bytes.resize(count as usize * size, 0).is_err() {
             return;
         }
-        ahead.count = match files.read_blocks(Area::Log, at, size, &mut ahead.bytes) {
+        ahead.count = match files.read_blocks(area, at, size, &mut ahead.bytes) {
             Ok(()) => count,
             Err(_) => 0,
         };
+        ahead.area = area;
         ahead.first = n;
     }
 
-    /// Reads a log block that is not gathered, and reads ahead for a reader that goes on from block to block.
-    fn read_log(&mut self, n: u64, into: &mut [u8]) -> Result<(), DeviceFault>
+    /// Reads a block that is not gathered, and reads ahead for a reader that goes on from block to block.
+    fn read_file(&mut self, area: Area, n: u64, into: &mut [u8]) -> Result<(), DeviceFault>
         requires block { length into.old ≡ self.old.block_size }
-        requires there { n < (file_shape self.old).log_blocks }
-        requires apart { (file_state C.contents self.old).disk Log n ≡ files_disk C.contents self.old Log n }
-        ensures bytes { OnOk result (HasAgreed C.contents self.new → into.new ≡ ((file_state C.contents self.old).disk Log n).reads) }
+        requires there { n < blocks_in (file_state C.contents self.old).shape area }
+        requires apart { (file_state C.contents self.old).disk area n ≡ files_disk C.contents self.old area n }
+        ensures bytes { OnOk result (HasAgreed C.contents self.new → into.new ≡ ((file_state C.contents self.old).disk area n).reads) }
         ensures ok { OnOk result (HasRead self.old self.new) }
-        ensures err { OnErr result (HasFailedRead self.old self.new Log (n * self.old.block_size)) }
+        ensures err { OnErr result (HasFailedRead self.old self.new area (n * self.old.block_size)) }
     {
-        let goes_on = self.note_asked(n);
-        if self.hand_out(n, into) {
+        let goes_on = self.note_asked(area, n);
+        if self.hand_out(area, n, into) {
             return Ok(());
         }
         if goes_on {
-            self.read_ahead(n);
-            if self.hand_out(n, into) {
+            self.read_ahead(area, n);
+            if self.hand_out(area, n, into) {
                 return Ok(());
             }
         }
-        self.read_block(Area::Log, n, into)
+        self.read_block(area, n, into)
     }
 
     fn read_block(&mut self, area: Area, n: u64, into: &mut [u8]) -> Result<(), DeviceFault>
@@ -443,10 +445,7 @@ impl<C: Contents> Device for FileDevice<C> {
         if self.hand_back(area, n, into) {
             return Ok(());
         }
-        match area {
-            Area::Log => self.read_log(n, into),
-            Area::Home => self.read_block(Area::Home, n, into),
-        }
+        self.read_file(area, n, into)
     }
 
     fn write(&mut self, area: Area, n: u64, bytes: &[u8]) -> Result<(), DeviceFault>

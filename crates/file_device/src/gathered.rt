@@ -21,7 +21,8 @@ pub(crate) struct Gathered {
     pub(crate) count: u64,
 }
 
-fn are_one(one: Area, other: Area) -> bool
+/// Whether these are one area.
+pub(crate) fn are_one(one: Area, other: Area) -> bool
     ensures { result ≡ same_area one other }
 {
     match one {

@@ -130,6 +130,20 @@ impl<D: Device, R: Record> Journal<D, R> {
         self.engine.block_size()
     }
 
+    /// The number of blocks of the home area.
+    pub fn home_blocks(&self) -> u64
+        ensures { result ≡ (D.state self.now.device).shape.home_blocks }
+    {
+        self.engine.home_blocks()
+    }
+
+    /// Its device, for calls that change nothing.
+    pub fn device(&self) -> &D
+        ensures { result.now ≡ self.now.device }
+    {
+        self.engine.device()
+    }
+
     /// The most credits that can be held at once; one transaction can have as many.
     pub fn capacity(&self) -> u64
         ensures { result ≡ self.now.journal.front.capacity }

@@ -1,5 +1,5 @@
-//! Scripts of journal operations, and the measures of the device that a script runs on. `docs/JBENCH.md` has the forms of scripts. Nothing
-//! runs here.
+//! Scripts of journal operations, and the measures of the device that a script runs on. `jbench help run` prints the forms of scripts.
+//! Nothing runs here.
 #![tactic(auto)]
 
 mod clients;

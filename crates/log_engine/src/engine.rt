@@ -129,9 +129,17 @@ impl<D: Device> Engine<D> {
         matches!(self.ledger.stage, Stage::Idle)
     }
 
+    /// Its device, for calls that change nothing.
+    pub fn device(&self) -> &D
+        ensures { result.now ≡ self.now.device }
+    {
+        &self.device
+    }
+
     /// Blocks of the home area.
     pub fn home_blocks(&self) -> u64
-        ensures { result ≡ self.now.engine.shape.home_blocks }
+        ensures home { result ≡ self.now.engine.shape.home_blocks }
+        ensures device { result ≡ (D.state self.now.device).shape.home_blocks }
     {
         self.device.blocks(Area::Home)
     }

@@ -17,7 +17,7 @@ invariant_of-result g c =
     let engine = c.in_ok-engine.ensures.ok.1 in
     let capacity = c.capacity-credits.result in
     let front =
-    c.new-front.ensures ∙ ap₂ (λ (l : Layout) (blocks : ℕ). fresh_front l blocks capacity c.next-next.result) c.layout-layout.ensures.layout c.home_blocks.ensures
+    c.new-front.ensures ∙ ap₂ (λ (l : Layout) (blocks : ℕ). fresh_front l blocks capacity c.next-next.result) c.layout-layout.ensures.layout c.home_blocks.ensures.home
     ∙ ap (fresh_front c.in_ok-engine.engine.engine.layout c.in_ok-engine.engine.engine.shape.home_blocks capacity) c.next-next.ensures.next in (
       fresh-agrees _ _ _ _ _ engine front
           (subst (λ (l : Layout). IsCapacity l c.in_ok-engine.engine.engine.ring.blocks c.capacity-credits.result) c.layout-layout.ensures.layout
@@ -31,7 +31,7 @@ returns-clause-fresh g c =
     let engine = c.in_ok-engine.ensures.ok.1 in
     let capacity = c.capacity-credits.result in
     let front =
-    c.new-front.ensures ∙ ap₂ (λ (l : Layout) (blocks : ℕ). fresh_front l blocks capacity c.next-next.result) c.layout-layout.ensures.layout c.home_blocks.ensures
+    c.new-front.ensures ∙ ap₂ (λ (l : Layout) (blocks : ℕ). fresh_front l blocks capacity c.next-next.result) c.layout-layout.ensures.layout c.home_blocks.ensures.home
     ∙ ap (fresh_front c.in_ok-engine.engine.engine.layout c.in_ok-engine.engine.engine.shape.home_blocks capacity) c.next-next.ensures.next in
     fresh-journal _ _ _ _ _ engine front
     (subst (λ (l : Layout). IsCapacity l c.in_ok-engine.engine.engine.ring.blocks c.capacity-credits.result) c.layout-layout.ensures.layout
