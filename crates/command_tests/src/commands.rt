@@ -2,7 +2,7 @@
 use file_device::UnknownContents;
 use jbench_commands::obeying::obey;
 use jbench_words::fault::Status;
-use jbench_words::words::parse;
+use jbench_words::words::{Words, parse};
 use std::alloc::{AllocError, Global};
 use std::str::from_utf8;
 use std::test::Fail;
@@ -50,10 +50,11 @@ fn said(rt: &HostRuntime, line: &'static str) -> Result<String, Fail> {
     let mut out = Vec::new(rt.alloc());
     let mut err = Vec::new(rt.alloc());
     match parse(rt.alloc(), &words) {
-        Ok(words) => {
+        Ok(Words::Alone(words)) => {
             let status = obey(rt, UnknownContents, &words, &mut out, &mut err)?;
             text_of(rt.alloc(), &out, &err, status)
         }
+        Ok(_) => Err(Fail::new("words need threads")),
         Err(_) => Err(Fail::new("words are refused")),
     }
 }

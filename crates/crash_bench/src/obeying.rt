@@ -41,7 +41,7 @@ pub(crate) fn obey<T: Threads + Wait + Sync, C: Contents + Send, W: Write + Drop
         Words::Threads(path) => threads_file(rt, threads, path, out, err),
         Words::Bench(words) => bench_files(rt, threads, contents, words, out, err),
         Words::Serve(words) => serve_files(rt, threads, contents, words, err),
-        _ => alone::obey(rt, contents, words, out, err),
+        Words::Alone(words) => alone::obey(rt, contents, words, out, err),
     }
 }
 

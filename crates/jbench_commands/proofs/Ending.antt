@@ -40,20 +40,6 @@ never-wrong (Ok status) other = λ wrong.
     let refused : status ≡ Refused = other (λ (fine : status ≡ Fine). subst IsWrong (sym wrong ∙ fine) tt) in
     subst IsWrong (sym wrong ∙ refused) tt
 
--- a refused command ends with 1
-abbrev IsFine : Status → Type 0
-IsFine Fine = ⊤
-IsFine Refused = ⊥
-IsFine VerdictFalse = ⊥
-
-pub refused-not-fine : {E : Type 0} (P : Type 0) (end : Result Status E) → IfOk end (λ status. status ≡ Refused) → IfOk end (λ status. status ≡ Fine → P)
-refused-not-fine P (Err e) refused = tt
-refused-not-fine P (Ok status) refused = λ fine. absurd (subst IsFine (sym fine ∙ refused) tt)
-
-pub refused-not-wrong : {E : Type 0} (P : Type 0) (end : Result Status E) → IfOk end (λ status. status ≡ Refused) → IfOk end (λ status. status ≡ VerdictFalse → P)
-refused-not-wrong P (Err e) refused = tt
-refused-not-wrong P (Ok status) refused = λ wrong. absurd (subst IsWrong (sym wrong ∙ refused) tt)
-
 -- a script that was read is one of its text
 pub is-taken : {E : Type 0} (known : Option (List ℕ)) (text : List ℕ) (read : Result Good E) → IsWhole known text → IfOk read (IsGoodOf text) → IsOk read → HasTakenEither known
 is-taken known text (Ok (Operations script)) whole is ok =

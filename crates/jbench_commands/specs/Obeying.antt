@@ -6,8 +6,8 @@ use Rattle.file_device.specs.Files.{FileContents, FileState, HasAgreed, file_sta
 use Rattle.script_client.specs.Ended.{IsLeftClosed}
 use Rattle.jbench_words.specs.declared.words.ApplyWords.{ApplyWords}
 use Rattle.jbench_words.specs.declared.words.FormatWords.{FormatWords}
-use Rattle.jbench_words.specs.declared.words.Words.{Words}
-use Rattle.jbench_words.specs.declared.words.Words.TheVariants.{Run, Sweep, Check, Threads, Format, Dump, Cat, Show, Recover, Upgrade, Apply, Bench, Serve, Completions, Man}
+use Rattle.jbench_words.specs.declared.words.AloneWords.{AloneWords}
+use Rattle.jbench_words.specs.declared.words.AloneWords.TheVariants.{Run, Sweep, Check, Format, Dump, Cat, Show, Recover, Upgrade, Apply, Completions, Man}
 use Rattle.jbench_files.specs.Apart.{AreApart}
 use Rattle.jbench_files.specs.Cleared.{cleared, log_cleared}
 use Rattle.jbench_files.specs.Over.{IsOver}
@@ -87,12 +87,10 @@ pub record IsAppliedOver (first : FileContents) (reads : TextReads) (words : App
   pub closed : words.stay ≡ false → HasAgreed first left → IsLeftClosed (file_state first left) sealed
 
 -- What the command did, over log files with this first content, an output with these first contents, and texts whose reads are known so.
--- Commands that need threads are not done here.
-abbrev pub HasObeyed : (first : FileContents) → (reads : TextReads) → (contents : Option (List ℕ)) → Words → Type 0
+abbrev pub HasObeyed : (first : FileContents) → (reads : TextReads) → (contents : Option (List ℕ)) → AloneWords → Type 0
 HasObeyed first reads contents (Run words) = IsOfText reads (λ text. HasRun (runs_told words.image) text words true)
 HasObeyed first reads contents (Sweep words) = IsOfText reads (λ text. HasSwept text words.fails 0)
 HasObeyed first reads contents (Check path) = IsOfText reads HasTakenEither
-HasObeyed first reads contents (Threads path) = ⊥
 HasObeyed first reads contents (Format words) = IsFormatDone first words
 HasObeyed first reads contents (Dump words) = IsDoneOver first IsOverAny (λ old new. HasDumped words.copy old)
 HasObeyed first reads contents (Cat words) = IsDoneOver first IsOverTwo (λ old new. HasLeft words.block old)
@@ -100,25 +98,5 @@ HasObeyed first reads contents (Show path) = ⊤
 HasObeyed first reads contents (Recover words) = IsDoneOver first IsOverTwo (Recovers words.dry_run words.before_damage)
 HasObeyed first reads contents (Upgrade path) = IsDoneOver first IsOverAny HasUpgraded
 HasObeyed first reads contents (Apply words) = IsAppliedOver first reads words contents
-HasObeyed first reads contents (Bench words) = ⊥
-HasObeyed first reads contents (Serve words) = ⊥
 HasObeyed first reads contents (Completions shell) = ⊤
 HasObeyed first reads contents Man = ⊤
-
--- none ends with 2: a sweep counts only right openings
-abbrev pub HasFoundWrong : Words → Type 0
-HasFoundWrong (Run words) = ⊥
-HasFoundWrong (Sweep words) = ⊥
-HasFoundWrong (Check path) = ⊥
-HasFoundWrong (Threads path) = ⊥
-HasFoundWrong (Format words) = ⊥
-HasFoundWrong (Dump words) = ⊥
-HasFoundWrong (Cat words) = ⊥
-HasFoundWrong (Show path) = ⊥
-HasFoundWrong (Recover words) = ⊥
-HasFoundWrong (Upgrade path) = ⊥
-HasFoundWrong (Apply words) = ⊥
-HasFoundWrong (Bench words) = ⊥
-HasFoundWrong (Serve words) = ⊥
-HasFoundWrong (Completions shell) = ⊥
-HasFoundWrong Man = ⊥

@@ -1,11 +1,11 @@
 //! Opens the files that the words name, and runs the command on them.
 ghost use Rattle.std.specs.Prelude.{◌≡◌, ◌≢◌, ◌↔◌, Bool, IfOk, IsOk, false, true};
-ghost use Rattle.jbench_words.specs.declared.fault.Status.TheVariants.{Fine, Refused, VerdictFalse};
+ghost use Rattle.jbench_words.specs.declared.fault.Status.TheVariants.{Fine, Refused};
 ghost use Rattle.jbench_files.specs.Cleared.{cleared, log_cleared};
 ghost use Rattle.jbench_files.specs.Over.{IsOver};
 ghost use Rattle.jbench_logs.specs.Done.{HasUpgraded, IsMade};
 ghost use Rattle.jbench_views.specs.Looked.{HasDumped, HasLeft};
-ghost use Rattle.jbench_commands.specs.Obeying.{HasFoundWrong, HasObeyed, IsAppliedOver, IsDoneOver, IsFormatDone, IsOfText, IsOverAny, IsOverTwo, Recovers, over_told};
+ghost use Rattle.jbench_commands.specs.Obeying.{HasObeyed, IsAppliedOver, IsDoneOver, IsFormatDone, IsOfText, IsOverAny, IsOverTwo, Recovers, over_told};
 ghost use Rattle.jbench_commands.specs.Runs.{HasRun, HasTakenEither, runs_told};
 ghost use Rattle.jbench_commands.specs.Sweeps.{HasSwept};
 
@@ -23,45 +23,41 @@ use jbench_help::{Shell, write_completions, write_manual};
 use jbench_logs::overwriting::say_overwritten;
 use jbench_logs::{logs, recovering, show};
 use jbench_views::{cat, dump};
-use jbench_words::fault::{self, Fault, Status, refuse_file};
+use jbench_words::fault::{Status, refuse_file};
 use jbench_words::watch::Watch;
 use jbench_words::words::{
-    ApplyWords, CatWords, DumpWords, FormatWords, LogPaths, RecoverWords, RunWords, ShowWords,
-    SweepWords, Words,
+    AloneWords, ApplyWords, CatWords, DumpWords, FormatWords, LogPaths, RecoverWords, RunWords,
+    ShowWords, SweepWords,
 };
-use journal_model::JournalError;
 use std::alloc::Global;
 use std::io;
 use std::io::{ErrorKind, Read, Write};
 
-/// Runs the command that the words name. `contents` is what a log's files are assumed to hold. `threads`, `bench` and `serve` are refused
-/// like a lack of memory, as they need threads; `crash_bench` has them.
+/// Runs the command that the words name. `contents` is what a log's files are assumed to hold. No command ends with status 2: a sweep
+/// counts only right openings.
 pub fn obey<C: Contents, W: Write + Drop, E: Write + Drop>(
     rt: &HostRuntime,
     contents: C,
-    words: &Words<'_>,
+    words: &AloneWords<'_>,
     out: W,
     err: E,
 ) -> io::Result<Status>
     ensures done { IfOk result (λ status. status ≡ Fine → HasObeyed C.contents ⟦<Text as Read>⟧.remaining (W.contents out) words.now) }
-    ensures wrong { IfOk result (λ status. status ≡ VerdictFalse → HasFoundWrong words.now) }
+    ensures other { IfOk result (λ status. status ≢ Fine → status ≡ Refused) }
 {
     match words {
-        Words::Run(words) => run_file(rt, words, out, err),
-        Words::Sweep(words) => sweep_file(rt, words, out, err),
-        Words::Check(path) => check_file(rt, path, out, err),
-        Words::Threads(path) => refuse_threads(path, err),
-        Words::Bench(words) => refuse_threads(words.paths.log, err),
-        Words::Serve(words) => refuse_threads(words.paths.log, err),
-        Words::Format(words) => format_files(rt, contents, words, out, err),
-        Words::Dump(words) => dump_file(rt, contents, words, out, err),
-        Words::Cat(words) => cat_files(rt, contents, words, out, err),
-        Words::Show(words) => show_file(rt, contents, words, out, err),
-        Words::Recover(words) => recover_files(rt, contents, words, out, err),
-        Words::Upgrade(path) => upgrade_file(rt, contents, path, out, err),
-        Words::Apply(words) => apply_files(rt, contents, words, out, err),
-        Words::Completions(shell) => print_completions(*shell, out),
-        Words::Man => print_manual(out),
+        AloneWords::Run(words) => run_file(rt, words, out, err),
+        AloneWords::Sweep(words) => sweep_file(rt, words, out, err),
+        AloneWords::Check(path) => check_file(rt, path, out, err),
+        AloneWords::Format(words) => format_files(rt, contents, words, out, err),
+        AloneWords::Dump(words) => dump_file(rt, contents, words, out, err),
+        AloneWords::Cat(words) => cat_files(rt, contents, words, out, err),
+        AloneWords::Show(words) => show_file(rt, contents, words, out, err),
+        AloneWords::Recover(words) => recover_files(rt, contents, words, out, err),
+        AloneWords::Upgrade(path) => upgrade_file(rt, contents, path, out, err),
+        AloneWords::Apply(words) => apply_files(rt, contents, words, out, err),
+        AloneWords::Completions(shell) => print_completions(*shell, out),
+        AloneWords::Man => print_manual(out),
     }
 }
 
@@ -146,14 +142,6 @@ fn check_file<W: Write + Drop, E: Write + Drop>(
         Ok(file) => check::check(rt.alloc(), path, file.into_text(), out, err),
         Err(e) => refuse_file(&mut err, path, e),
     }
-}
-
-/// Prints that there are no threads.
-fn refuse_threads<E: Write + Drop>(path: &str, err: E) -> io::Result<Status>
-    ensures { IfOk result (λ status. status ≡ Refused) }
-{
-    let mut err = err;
-    fault::refuse(&mut err, path, &Fault::Refused(JournalError::Memory))
 }
 
 /// Makes an empty log in two files, or in one with home kept. Both files are opened before either is changed.

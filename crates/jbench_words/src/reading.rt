@@ -5,8 +5,8 @@ ghost use Rattle.log_format.specs.Size.{IsBlockSize};
 
 use crate::wanted::Wanted;
 use crate::words::{
-    ApplyWords, BenchWords, CatWords, DumpWords, FormatWords, LogPaths, RecoverWords, RunWords,
-    ServeWords, ShowWords, StopWords, SweepWords, Words,
+    AloneWords, ApplyWords, BenchWords, CatWords, DumpWords, FormatWords, LogPaths, RecoverWords,
+    RunWords, ServeWords, ShowWords, StopWords, SweepWords, Words,
 };
 use clap::ArgMatches;
 use jbench_help::Shell;
@@ -296,21 +296,32 @@ fn command_words<'a>(
     told: &ArgMatches<'a>,
 ) -> Result<Words<'a>, Wanted> {
     match name {
-        "run" => run_words(alloc, told).map(Words::Run),
-        "sweep" => Ok(Words::Sweep(sweep_words(told))),
-        "check" => Ok(Words::Check(script_told(told))),
         "threads" => Ok(Words::Threads(script_told(told))),
-        "format" => format_words(alloc, told).map(Words::Format),
-        "dump" => dump_words(told).map(Words::Dump),
-        "cat" => cat_words(told).map(Words::Cat),
-        "show" => Ok(Words::Show(show_words(told))),
-        "recover" => recover_words(told).map(Words::Recover),
-        "upgrade" => Ok(Words::Upgrade(log_told(told))),
-        "apply" => apply_words(told).map(Words::Apply),
         "bench" => bench_words(told).map(Words::Bench),
         "serve" => serve_words(told).map(Words::Serve),
-        "completions" => Ok(Words::Completions(shell_told(told)?)),
-        "man" => Ok(Words::Man),
+        _ => alone_words(alloc, name, told).map(Words::Alone),
+    }
+}
+
+/// The words of the command of this name, if it starts no thread.
+fn alone_words<'a>(
+    alloc: Global,
+    name: &str,
+    told: &ArgMatches<'a>,
+) -> Result<AloneWords<'a>, Wanted> {
+    match name {
+        "run" => run_words(alloc, told).map(AloneWords::Run),
+        "sweep" => Ok(AloneWords::Sweep(sweep_words(told))),
+        "check" => Ok(AloneWords::Check(script_told(told))),
+        "format" => format_words(alloc, told).map(AloneWords::Format),
+        "dump" => dump_words(told).map(AloneWords::Dump),
+        "cat" => cat_words(told).map(AloneWords::Cat),
+        "show" => Ok(AloneWords::Show(show_words(told))),
+        "recover" => recover_words(told).map(AloneWords::Recover),
+        "upgrade" => Ok(AloneWords::Upgrade(log_told(told))),
+        "apply" => apply_words(told).map(AloneWords::Apply),
+        "completions" => Ok(AloneWords::Completions(shell_told(told)?)),
+        "man" => Ok(AloneWords::Man),
         _ => Err(Wanted::Command),
     }
 }

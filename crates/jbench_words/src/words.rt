@@ -16,14 +16,25 @@ use std::time::Duration;
 /// What the program has to do.
 #[derive(Drop)]
 pub enum Words<'a> {
+    /// Runs the clients of the script in this file in threads.
+    Threads(&'a str),
+    /// Measures the time of transactions on a log.
+    Bench(BenchWords<'a>),
+    /// Serves a log's home area as a block device.
+    Serve(ServeWords<'a>),
+    /// Does what starts no thread.
+    Alone(AloneWords<'a>),
+}
+
+/// What the program does in its own thread.
+#[derive(Drop)]
+pub enum AloneWords<'a> {
     /// Runs a script.
     Run(RunWords<'a>),
     /// Sweeps a script.
     Sweep(SweepWords<'a>),
     /// Checks the script in this file.
     Check(&'a str),
-    /// Runs the clients of the script in this file in threads.
-    Threads(&'a str),
     /// Makes an empty log.
     Format(FormatWords<'a>),
     /// Prints a log.
@@ -38,10 +49,6 @@ pub enum Words<'a> {
     Upgrade(&'a str),
     /// Applies a script's operations to a log.
     Apply(ApplyWords<'a>),
-    /// Measures the time of transactions on a log.
-    Bench(BenchWords<'a>),
-    /// Serves a log's home area as a block device.
-    Serve(ServeWords<'a>),
     /// Prints the completions for this shell.
     Completions(Shell),
     /// Prints the page for `man`.

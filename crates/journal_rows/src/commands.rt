@@ -7,8 +7,8 @@ use jbench_logs::{logs, recovering, show};
 use jbench_words::fault::Status;
 use jbench_words::watch::Unwatched;
 use jbench_words::words::{
-    ApplyWords, BenchWords, CatWords, DumpWords, FormatWords, RecoverWords, RunWords, ServeWords,
-    ShowWords, StopWords, SweepWords, Words, answer, parse,
+    AloneWords, ApplyWords, BenchWords, CatWords, DumpWords, FormatWords, RecoverWords, RunWords,
+    ServeWords, ShowWords, StopWords, SweepWords, Words, answer, parse,
 };
 use journal_script::{Script, ScriptError, read};
 use log_rows::RowError;
@@ -27,7 +27,7 @@ pub fn run<R: Wait>(rt: &R, alloc: Global, given: &str) -> Result<String, RowErr
     let (line, script) = given.split_once('\n').unwrap_or((given, ""));
     let words = words_in(alloc, line)?;
     match parse(alloc, &words) {
-        Ok(Words::Run(words)) => {
+        Ok(Words::Alone(AloneWords::Run(words))) => {
             let alone = run_script(alloc, &words, script);
             match run_shared(rt, alloc, &words, script)? {
                 Some(shared) => both(alloc, alone, Ok(shared)),
@@ -106,7 +106,7 @@ pub fn sweep(alloc: Global, given: &str) -> Result<String, RowError> {
     let (line, script) = cut(given, "\n")?;
     let words = words_in(alloc, line)?;
     match parse(alloc, &words) {
-        Ok(Words::Sweep(words)) => sweep_script(alloc, &words, script),
+        Ok(Words::Alone(AloneWords::Sweep(words))) => sweep_script(alloc, &words, script),
         _ => Err(RowError::Unread),
     }
 }
@@ -127,7 +127,7 @@ pub fn check(alloc: Global, given: &str) -> Result<String, RowError> {
     let (line, script) = given.split_once('\n').unwrap_or((given, ""));
     let words = words_in(alloc, line)?;
     match parse(alloc, &words) {
-        Ok(Words::Check(path)) => check_script(alloc, path, script),
+        Ok(Words::Alone(AloneWords::Check(path))) => check_script(alloc, path, script),
         _ => Err(RowError::Unread),
     }
 }
@@ -162,7 +162,11 @@ pub fn format(alloc: Global, given: &str) -> Result<String, RowError> {
     let (line, shape) = cut(given, "\n")?;
     let words = words_in(alloc, line)?;
     match parse(alloc, &words) {
-        Ok(Words::Format(words)) => format_device(alloc, &words, device_of(alloc, shape)?),
+        Ok(Words::Alone(AloneWords::Format(words))) => format_device(
+            alloc,
+            &words,
+            device_of(alloc, shape)?,
+        ),
         _ => Err(RowError::Unread),
     }
 }
@@ -198,7 +202,11 @@ pub fn recover(alloc: Global, given: &str) -> Result<String, RowError> {
     let (line, log) = cut(given, "\n")?;
     let words = words_in(alloc, line)?;
     match parse(alloc, &words) {
-        Ok(Words::Recover(words)) => recover_device(alloc, &words, log_on_device(alloc, log)?),
+        Ok(Words::Alone(AloneWords::Recover(words))) => recover_device(
+            alloc,
+            &words,
+            log_on_device(alloc, log)?,
+        ),
         _ => Err(RowError::Unread),
     }
 }
@@ -227,7 +235,11 @@ pub fn upgrade(alloc: Global, given: &str) -> Result<String, RowError> {
     let (line, log) = cut(given, "\n")?;
     let words = words_in(alloc, line)?;
     match parse(alloc, &words) {
-        Ok(Words::Upgrade(path)) => upgrade_device(alloc, path, log_on_device(alloc, log)?),
+        Ok(Words::Alone(AloneWords::Upgrade(path))) => upgrade_device(
+            alloc,
+            path,
+            log_on_device(alloc, log)?,
+        ),
         _ => Err(RowError::Unread),
     }
 }
@@ -247,7 +259,11 @@ pub fn show(alloc: Global, given: &str) -> Result<String, RowError> {
     let (line, log) = cut(given, "\n")?;
     let words = words_in(alloc, line)?;
     match parse(alloc, &words) {
-        Ok(Words::Show(words)) => show_device(alloc, &words, log_on_device(alloc, log)?),
+        Ok(Words::Alone(AloneWords::Show(words))) => show_device(
+            alloc,
+            &words,
+            log_on_device(alloc, log)?,
+        ),
         _ => Err(RowError::Unread),
     }
 }
@@ -278,24 +294,30 @@ pub fn words(alloc: Global, given: &str) -> Result<String, RowError> {
 
 fn told(alloc: Global, words: &Words<'_>) -> Result<String, RowError> {
     match words {
-        Words::Run(words) => Ok(told_run(alloc, words)?),
-        Words::Sweep(words) => told_sweep(alloc, words),
-        Words::Check(script) => Ok(format!(in alloc; "check {script}")?),
         Words::Threads(script) => Ok(format!(in alloc; "threads {script}")?),
-        Words::Format(words) => told_format(alloc, words),
-        Words::Dump(words) => Ok(told_dump(alloc, words)?),
-        Words::Cat(words) => Ok(told_cat(alloc, words)?),
-        Words::Show(words) => {
+        Words::Bench(words) => Ok(told_bench(alloc, words)?),
+        Words::Serve(words) => told_serve(alloc, words),
+        Words::Alone(words) => told_alone(alloc, words),
+    }
+}
+
+fn told_alone(alloc: Global, words: &AloneWords<'_>) -> Result<String, RowError> {
+    match words {
+        AloneWords::Run(words) => Ok(told_run(alloc, words)?),
+        AloneWords::Sweep(words) => told_sweep(alloc, words),
+        AloneWords::Check(script) => Ok(format!(in alloc; "check {script}")?),
+        AloneWords::Format(words) => told_format(alloc, words),
+        AloneWords::Dump(words) => Ok(told_dump(alloc, words)?),
+        AloneWords::Cat(words) => Ok(told_cat(alloc, words)?),
+        AloneWords::Show(words) => {
             let json = if words.json { ", json" } else { "" };
             Ok(format!(in alloc; "show {}{json}", words.log)?)
         }
-        Words::Recover(words) => Ok(told_recover(alloc, words)?),
-        Words::Upgrade(log) => Ok(format!(in alloc; "upgrade {log}")?),
-        Words::Apply(words) => Ok(told_apply(alloc, words)?),
-        Words::Bench(words) => Ok(told_bench(alloc, words)?),
-        Words::Serve(words) => told_serve(alloc, words),
-        Words::Completions(shell) => Ok(format!(in alloc; "completions {shell:?}")?),
-        Words::Man => Ok(format!(in alloc; "man")?),
+        AloneWords::Recover(words) => Ok(told_recover(alloc, words)?),
+        AloneWords::Upgrade(log) => Ok(format!(in alloc; "upgrade {log}")?),
+        AloneWords::Apply(words) => Ok(told_apply(alloc, words)?),
+        AloneWords::Completions(shell) => Ok(format!(in alloc; "completions {shell:?}")?),
+        AloneWords::Man => Ok(format!(in alloc; "man")?),
     }
 }
 
@@ -525,8 +547,8 @@ pub fn printed(alloc: Global, given: &str) -> Result<String, RowError> {
     let words = words_in(alloc, line)?;
     let mut out = Vec::new(alloc);
     let printed = match parse(alloc, &words) {
-        Ok(Words::Completions(shell)) => write_completions(shell, &mut out),
-        Ok(Words::Man) => write_manual(&mut out),
+        Ok(Words::Alone(AloneWords::Completions(shell))) => write_completions(shell, &mut out),
+        Ok(Words::Alone(AloneWords::Man)) => write_manual(&mut out),
         _ => return Err(RowError::Unread),
     };
     match printed {

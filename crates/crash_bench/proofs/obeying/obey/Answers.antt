@@ -1,5 +1,4 @@
 use Rattle.jbench_commands.proofs.Ending.{never-wrong}
-use Rattle.crash_bench.proofs.Alone.{done-alone, wrong-alone}
 use Rattle.crash_bench.proofs.obeying.obey.Goals as goal
 
 -- clients ran in threads
@@ -23,9 +22,9 @@ returns-in-Bench-clause-wrong g c = rw c.in-Bench.is (never-wrong c.bench_files.
 pub returns-in-Serve-clause-wrong : goal.returns-in-Serve-clause-wrong
 returns-in-Serve-clause-wrong g c = rw c.in-Serve.is (never-wrong c.serve_files.result c.serve_files.ensures.other)
 
--- a command that starts no threads
-pub returns-in_default-clause-done : goal.returns-in_default-clause-done
-returns-in_default-clause-done g c = done-alone _ _ _ c.args.words.now c.obey.result c.obey.ensures.done
+-- a command that starts no thread
+pub returns-in-Alone-clause-done : goal.returns-in-Alone-clause-done
+returns-in-Alone-clause-done g c = rw c.in-Alone.is c.obey.ensures.done
 
-pub returns-in_default-clause-wrong : goal.returns-in_default-clause-wrong
-returns-in_default-clause-wrong g c = wrong-alone _ c.args.words.now c.obey.result c.obey.ensures.wrong
+pub returns-in-Alone-clause-wrong : goal.returns-in-Alone-clause-wrong
+returns-in-Alone-clause-wrong g c = rw c.in-Alone.is (never-wrong c.obey.result c.obey.ensures.other)
