@@ -184,7 +184,7 @@ impl<D: Device, R: Record> Journal<D, R> {
         requires { length into.old ≡ (D.state self.old.device).shape.block_size }
         ensures ok { OnOk result (D.honest self.new.device → Does D.state self.old (ReadBlock handle.old.number block into.new) self.new) }
         // Reads need not be correct for this.
-        ensures noted { OnOk result (RegistersRead D.state self.old handle.old block into.new self.new) }
+        ensures registers { OnOk result (RegistersRead D.state self.old handle.old block into.new self.new) }
         ensures legal { KeepsLegal D.honest self.new }
         ensures err { IfErr result (ReadRefused D.state self.old handle.old block self.new) }
         ensures untouched { IfErr result (λ e. into.new ≡ into.old) }

@@ -16,11 +16,11 @@ ghost use Rattle.jbench_commands.specs.Applying.{AreForDevice, AreOf, EndsWithNe
 
 use crate::faults::of_run;
 use crate::objects::Objects;
-use crate::run::read_text;
 use crate::uncommitted::{changes_in, say_open_wait, say_uncommitted};
 use block_device::{Device, read_block};
 use jbench_logs::logs::{refuse, say_opened};
 use jbench_words::fault::{self, Fault};
+use jbench_words::text::read_text;
 use jbench_words::words::ApplyWords;
 use journal_model::layout::GREATEST_NUMBER;
 use journal_model::{Area, JournalError};

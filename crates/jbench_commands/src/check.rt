@@ -3,8 +3,8 @@ ghost use Rattle.std.specs.Prelude.{◌≡◌, ◌≢◌, IfOk, IsOk};
 ghost use Rattle.jbench_words.specs.declared.fault.Status.TheVariants.{Fine, Refused};
 ghost use Rattle.jbench_commands.specs.Runs.{HasTakenEither, IsGoodOf};
 
-use crate::run::read_text;
 use jbench_words::fault::{self, Fault, Status};
+use jbench_words::text::read_text;
 use journal_script::{BadScript, ClientScript, Script, ScriptError};
 use std::alloc::Global;
 use std::io;

@@ -3,12 +3,13 @@ ghost use Rattle.std.specs.Prelude.{◌≡◌, ◌≢◌, ◌≤◌, ◌⊎◌, 
 ghost use Rattle.jbench_words.specs.Images.{IsUnmade};
 ghost use Rattle.jbench_words.specs.declared.fault.Status.TheVariants.{Fine, Refused};
 ghost use Rattle.script_run.specs.Left.{IsRunOf};
-ghost use Rattle.jbench_commands.specs.Runs.{AreStopsTold, HasRun, IsRunWithImage, IsStopTold, IsTaken, IsWhole};
+ghost use Rattle.jbench_commands.specs.Runs.{AreStopsTold, HasRun, IsRunWithImage, IsStopTold, IsTaken};
 
 use crate::faults::of_run;
 use crate::object::write_object;
 use block_device::Device;
 use jbench_words::fault::{self, Fault, Status};
+use jbench_words::text::read_text;
 use jbench_words::words::{RunWords, StopWords};
 use journal_script::{HOMES, Measures, Script};
 use script_run::{Stop, Stops};
@@ -242,15 +243,4 @@ pub(crate) fn read_script<R: Read + Drop>(alloc: Global, reader: R) -> Result<Sc
     let text = read_text(alloc, reader)?;
     let script = journal_script::read(alloc, &text)?;
     Ok(script)
-}
-
-/// Reads a script's bytes to their end.
-pub(crate) fn read_text<R: Read + Drop>(alloc: Global, mut reader: R) -> Result<Vec<u8>, Fault>
-    ensures { IfOk result (λ text. IsWhole (R.remaining reader) text.items) }
-{
-    let mut text = Vec::new(alloc);
-    match reader.read_to_end(&mut text) {
-        Ok(_) => Ok(text),
-        Err(e) => Err(Fault::of_file(e)),
-    }
 }

@@ -55,7 +55,7 @@ fn advice_of_operation(e: JournalError) -> &'static str {
             "the log has no room left for the transaction: [\"check\"] before its commit brings home what is committed, and makes room; apply --make-room does both"
         }
         JournalError::Revoked => {
-            "the block was revoked, and holds nothing to be read: write it first, or read it once the revoke is committed and checked"
+            "the block was revoked, and holds nothing to be read: write it first, or read it once the revoke is committed"
         }
         _ => advice_of_superblock(e),
     }

@@ -73,6 +73,11 @@ pub data NoCopy (f : Front) (b : ℕ) (e : JournalError) : Type 0 where
   OfRevoke : last_effect b (unfinished f) ≡ Some RevokeEntry → e ≡ Revoked → NoCopy f b e
   OfMemory : (last_effect b (unfinished f) ≡ Some RevokeEntry → ⊥) → e ≡ Memory → NoCopy f b e
 
+-- the front holds a copy of the block
+pub record HoldsCopy (f : Front) (b : ℕ) : Type 0 where
+  pub copy : List ℕ
+  pub last : last_effect b (unfinished f) ≡ Some (Copy copy)
+
 -- a copy of the block is kept: as the last entry of the unfinished transactions, or pending
 pub data HasCopyKept (j : Journal) (b : ℕ) : Type 0 where
   OfUnfinished : (v : List ℕ) → last_effect b (unfinished j.front) ≡ Some (Copy v) → HasCopyKept j b

@@ -15,7 +15,7 @@ ghost use Rattle.journal_world.specs.Journal.Event.{DirectSync, DirectWrite, Rea
 ghost use Rattle.block_device.specs.Call.{MakesOneCall, OnlyReads};
 ghost use Rattle.log_engine.specs.Left.{commit_calls};
 ghost use Rattle.journal_steps.specs.declared.turn.CheckTurn.TheVariants.{Idle as IdleCheck};
-ghost use Rattle.journal_steps.specs.Journal.{Agrees, CheckTurnDid, CheckTurnRefused, Does, FitsQuarter, HandsOut, HasRoomFor, IsDuringCheckTurn, IsDuringTurn, LeavesFewerRounds, NewestRefused, NoCopy, RegistersRead, OpensNow, ReadRefused, ReadsNewest, SealIsDue, TurnDid, TurnRefused, need_of};
+ghost use Rattle.journal_steps.specs.Journal.{Agrees, CheckTurnDid, CheckTurnRefused, Does, FitsQuarter, HandsOut, HasRoomFor, HoldsCopy, IsDuringCheckTurn, IsDuringTurn, LeavesFewerRounds, NewestRefused, NoCopy, RegistersRead, OpensNow, ReadRefused, ReadsNewest, SealIsDue, TurnDid, TurnRefused, need_of};
 ghost use Rattle.journal_steps.specs.Legal.{KeepsLegal};
 ghost use Rattle.journal_steps.specs.Direct.{DirectSyncRefused, DirectWriteRefused, IsDuringDirectSync, IsDuringDirectWrite, MayWriteDirectly};
 ghost use Rattle.journal_front.specs.Front.{MayStep};
@@ -31,10 +31,11 @@ use log_engine::{Engine, Progress};
 ///
 /// # Errors
 ///
-/// `Revoked` (the entry is a revoke), `Memory`.
-fn held_copy<R: Record>(front: &Front<R>, block: BlockNo) -> Result<Option<Block>, JournalError>
+/// `Revoked` (the entry is a revoke), `Memory`, only if the front holds a copy.
+pub fn held_copy<R: Record>(front: &Front<R>, block: BlockNo) -> Result<Option<Block>, JournalError>
     ensures ok { IfOk result (λ copy. last_effect block (unfinished front.now) ≡ option_map Copy copy) }
     ensures err { IfErr result (NoCopy front.now block) }
+    ensures memory { IfErr result (λ e. e ≡ Memory → HoldsCopy front.now block) }
 {
     match front.newest(block) {
         Some(Entry::Copy(copy)) => Ok(Some(copy.try_clone()?)),
@@ -48,7 +49,7 @@ fn held_copy<R: Record>(front: &Front<R>, block: BlockNo) -> Result<Option<Block
 /// # Errors
 ///
 /// `Memory`: nothing changes.
-fn register<R: Record>(
+pub fn register_read<R: Record>(
     front: &mut Front<R>,
     handle: &Handle,
     block: BlockNo,
@@ -86,7 +87,7 @@ pub fn read<D: Device, R: Record>(
     requires agrees { Agrees (together front.old engine.old).journal }
     ensures agrees { Agrees (together front.new engine.new).journal }
     ensures ok { OnOk result (D.honest engine.new.device → Does D.state (together front.old engine.old) (ReadBlock handle.now.number block into.new) (together front.new engine.new)) }
-    ensures noted { OnOk result (RegistersRead D.state (together front.old engine.old) handle.now block into.new (together front.new engine.new)) }
+    ensures registers { OnOk result (RegistersRead D.state (together front.old engine.old) handle.now block into.new (together front.new engine.new)) }
     ensures legal { KeepsLegal D.honest (together front.old engine.old) → KeepsLegal D.honest (together front.new engine.new) }
     ensures err { IfErr result (ReadRefused D.state (together front.old engine.old) handle.now block (together front.new engine.new)) }
     ensures untouched { IfErr result (λ e. into.new ≡ into.old) }
@@ -99,14 +100,14 @@ pub fn read<D: Device, R: Record>(
     engine.recall_invariant();
     front.admit(handle, block)?;
     if let Some(copy) = held_copy(front, block)? {
-        return register(front, handle, block, copy, into);
+        return register_read(front, handle, block, copy, into);
     }
     let mut bytes = front.room_for_read()?;
     if let Err(e) = engine.read(block, &mut bytes) {
         front.abort();
         return Err(e);
     }
-    register(front, handle, block, Block::new(bytes)?, into)
+    register_read(front, handle, block, Block::new(bytes)?, into)
 }
 
 /// Copies a block's last entry in the unfinished transactions into the buffer, if it is a copy, and answers whether it did.

@@ -1,4 +1,4 @@
-//! What a follower knows of a value that its owner changes under another lock: as it was when both last synchronized.
+//! What a follower knows of a value that its owner changes under another lock: as it was when both were last reconciled.
 ghost use Rattle.std.specs.Prelude.{◌≡◌, Some};
 
 use crate::parts::{Fragment, SharedWhole, UnnamedWhole, Whole};
@@ -32,7 +32,7 @@ pub struct Reconciler<J: PartsName, E, P: Since<E>> {
 /// The owner's side. Contracts see the present value.
 pub type Owner<J, E> = Whole<J, E, E>;
 
-/// The follower's side. Contracts see the value as it was at the last synchronization.
+/// The follower's side. Contracts see the value as it was when both were last reconciled.
 #[derive(Drop)]
 pub struct Follower<J: PartsName, E> {
     part: Fragment<J, E, E>,
@@ -107,7 +107,7 @@ impl<J: PartsName, E, P: Since<E>> Reconciler<J, E, P> {
         self.parts.go_on(owner, now);
     }
 
-    /// Synchronizes both: `since` holds of the value that the follower saw and the owner's. Then the owner's value becomes `now`, and the
+    /// Reconciles both: `since` holds of the value that the follower saw and the owner's. Then the owner's value becomes `now`, and the
     /// follower has seen it. `since` must hold of `now` unchanged.
     pub fn reconcile(&self, follower: &mut Follower<J, E>, owner: &mut Owner<J, E>, now: &E)
         requires { P.since now.now now.now }

@@ -224,7 +224,7 @@ impl<'a, D: Device + Drop, H: HomeFact> Client<'a, D, H> {
     ) -> Result<(), JournalError>
         requires { length into.old ≡ (D.state self.old.journal.device).shape.block_size }
         ensures ok { OnOk result (D.honest self.new.journal.device → Does D.state self.old.journal (ReadBlock handle.old.number block into.new) self.new.journal) }
-        ensures noted { OnOk result (RegistersRead D.state self.old.journal handle.old block into.new self.new.journal) }
+        ensures registers { OnOk result (RegistersRead D.state self.old.journal handle.old block into.new self.new.journal) }
         ensures err { IfErr result (ReadRefused D.state self.old.journal handle.old block self.new.journal) }
         ensures handle { handle.new ≡ handle.old }
         ensures rest { IsSameButJournal self.old self.new }

@@ -1,12 +1,13 @@
 //! The command `threads`: reads a script of clients, runs them in threads, and prints the verdicts.
-ghost use Rattle.std.specs.Prelude.{◌≡◌, IfOk, IfSome, Some};
+ghost use Rattle.std.specs.Prelude.{◌≡◌, IfOk, Some};
 ghost use Rattle.jbench_words.specs.declared.fault.Status.TheVariants.{Fine, Refused, VerdictFalse};
 ghost use Rattle.script_threads.specs.Runs.{HasFoundFalse, HasRunRight, HasRunWrong, HasServed};
 ghost use Rattle.script_threads.specs.Verdicts.{AreAllTrue};
 
 use crate::running::{Ended, RefusedClient, run};
 use crate::verdicts::Verdicts;
-use jbench_words::fault::{self, Fault, Status};
+use jbench_words::fault::{self, Status};
+use jbench_words::text::read_text;
 use journal_script::{ClientScript, ScriptError, read_clients};
 use std::alloc::Global;
 use std::io;
@@ -36,17 +37,6 @@ pub fn threads<T: Threads + Wait + Sync, R: Read + Drop, W: Write + Drop, E: Wri
     match read_text(alloc, script) {
         Ok(text) => serve_text(rt, alloc, path, &text, out, err),
         Err(fault) => fault::refuse(&mut err, path, &fault),
-    }
-}
-
-/// Reads a script to its end.
-fn read_text<R: Read + Drop>(alloc: Global, mut reader: R) -> Result<Vec<u8>, Fault>
-    ensures { IfOk result (λ text. IfSome (R.remaining reader) (λ bytes. text.items ≡ bytes)) }
-{
-    let mut text = Vec::new(alloc);
-    match reader.read_to_end(&mut text) {
-        Ok(_) => Ok(text),
-        Err(e) => Err(Fault::of_file(e)),
     }
 }
 

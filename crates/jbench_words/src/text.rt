@@ -1,0 +1,21 @@
+//! Reads the text of a script.
+ghost use Rattle.std.specs.Prelude.{◌≡◌, IfOk, IfSome};
+
+use crate::fault::Fault;
+use std::alloc::Global;
+use std::io::Read;
+
+/// Reads a script's bytes to their end.
+///
+/// # Errors
+///
+/// The reader failed, or memory ran out.
+pub fn read_text<R: Read + Drop>(alloc: Global, mut reader: R) -> Result<Vec<u8>, Fault>
+    ensures { IfOk result (λ text. IfSome (R.remaining reader) (λ bytes. text.items ≡ bytes)) }
+{
+    let mut text = Vec::new(alloc);
+    match reader.read_to_end(&mut text) {
+        Ok(_) => Ok(text),
+        Err(e) => Err(Fault::of_file(e)),
+    }
+}
