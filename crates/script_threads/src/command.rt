@@ -6,7 +6,7 @@ ghost use Rattle.script_threads.specs.Verdicts.{AreAllTrue};
 
 use crate::running::{Ended, RefusedClient, run};
 use crate::verdicts::Verdicts;
-use jbench_words::fault::{self, Status};
+use jbench_words::fault::{self, Fault, Status};
 use jbench_words::text::read_text;
 use journal_script::{ClientScript, ScriptError, read_clients};
 use std::alloc::Global;
