@@ -4,3 +4,4 @@
 
 #[cfg(test)]
 mod commands;
+pub mod output;

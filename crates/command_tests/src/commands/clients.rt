@@ -1,5 +1,5 @@
 //! Clients of a script, each in its own thread.
-use super::text_of;
+use crate::output::text_of;
 use script_threads::threads;
 use std::alloc::Global;
 use std::process::Abort;

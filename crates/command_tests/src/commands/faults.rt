@@ -1,5 +1,5 @@
 //! Readers and writers that fail.
-use super::text_of;
+use crate::output::text_of;
 use jbench_commands::run::run;
 use jbench_words::words::{RunWords, StopWords};
 use std::alloc::Global;

@@ -1,5 +1,5 @@
 //! Commands over files that another program has locked.
-use super::{Step, first_other, said};
+use crate::output::{Step, first_other, said};
 use file_device::{Unlocked, lock, lock_shared};
 use std::fs::{File, OpenOptions};
 use std::os::unix::fs::MetadataExt;

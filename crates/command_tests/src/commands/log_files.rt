@@ -1,5 +1,5 @@
 //! The commands `format` and `dump` over files.
-use super::{Step, first_other, text_of};
+use crate::output::{Step, first_other, text_of};
 use file_device::{FileDevice, UnknownContents};
 use jbench_files::{Cleared, make_device, open_log, open_or_make_pair};
 use jbench_logs::logs::{dump, format};

@@ -1,5 +1,5 @@
 //! Commands that print JSON objects, one after the other over the same files.
-use super::{Step, first_other};
+use crate::output::{Step, first_other};
 use std::fs;
 use std::test::Fail;
 

@@ -1,5 +1,5 @@
 //! An apply whose transactions have more blocks than the ring, and one that waits without a commit.
-use super::{Step, byte_at, first_other};
+use command_tests::output::{Step, byte_at, first_other};
 use std::fs;
 use std::test::Fail;
 

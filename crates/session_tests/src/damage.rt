@@ -1,6 +1,6 @@
 //! Logs in files that are damaged or ahead: the transactions that commands take of them, or would take; and logs that are made while home
 //! is kept.
-use super::{Step, byte_at, first_other};
+use command_tests::output::{Step, byte_at, first_other};
 use std::test::Fail;
 use std::{fs, io};
 

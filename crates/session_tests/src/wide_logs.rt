@@ -1,5 +1,5 @@
 //! Commands over a log in files with 64-bit block numbers, and over one that is upgraded to them.
-use super::{Step, byte_at, first_other, said};
+use command_tests::output::{Step, byte_at, first_other, said};
 use std::alloc::Global;
 use std::fs;
 use std::test::Fail;

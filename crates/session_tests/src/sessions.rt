@@ -1,5 +1,5 @@
 //! Commands in turn over the same files: the output of each, and the bytes that the files then hold.
-use super::{Step, byte_at, first_other};
+use command_tests::output::{Step, byte_at, first_other};
 use std::fs;
 use std::test::Fail;
 
