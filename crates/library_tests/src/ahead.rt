@@ -1,5 +1,5 @@
 //! Commits by single turns: with room kept ahead of need no seal lacks room.
-use crate::bytes::expect;
+use crate::expected::expect;
 use crate::newest::{change, journal_on};
 use block_device::MemDevice;
 use group_commit::{Journal, Turn};

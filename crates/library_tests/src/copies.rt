@@ -1,7 +1,7 @@
 //! The entries of one block at each step of two transactions.
 ghost use Rattle.std.specs.Prelude.{◌≡◌, []};
 
-use crate::bytes::expect;
+use crate::expected::expect;
 use frozen_copy::VersionCache;
 use journal_model::{Block, BlockNo, Entry};
 use std::alloc::{AllocError, Global};

@@ -1,7 +1,7 @@
 //! Credits and the commit mark, in one thread and in two, with answers worked out by hand.
 ghost use Rattle.std.specs.Prelude.{◌≡◌};
 
-use crate::bytes::expect;
+use crate::expected::expect;
 use handle::{
     CommitMark, CreditPool, HandleToken, JournalName, Raiser, Seat, TicketToken, UnnamedBoard,
     board,

@@ -1,6 +1,6 @@
 //! The example of one thread over a device in memory.
 
-use crate::bytes::expect;
+use crate::expected::expect;
 use block_device::MemDevice;
 use journal_example::work;
 use std::test::Fail;

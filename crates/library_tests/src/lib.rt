@@ -4,8 +4,6 @@
 #[cfg(test)]
 mod ahead;
 #[cfg(test)]
-mod bytes;
-#[cfg(test)]
 mod closes;
 #[cfg(test)]
 mod copies;
@@ -14,9 +12,7 @@ mod credits;
 #[cfg(test)]
 mod example;
 #[cfg(test)]
-mod files;
-#[cfg(test)]
-mod gathered;
+mod expected;
 #[cfg(test)]
 mod newest;
 #[cfg(test)]

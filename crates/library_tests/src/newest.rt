@@ -1,6 +1,6 @@
 //! Reads without a handle, in a journal of one thread: they see what a handle's read would, and note nothing.
 
-use crate::bytes::expect;
+use crate::expected::expect;
 use block_device::{Device, FailOnce, MemDevice};
 use group_commit::{FrontCalls, Journal, Record, Ticket, Turn};
 use journal_model::{BlockNo, JournalError};

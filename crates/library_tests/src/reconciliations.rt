@@ -1,7 +1,7 @@
 //! A counter, and its value when both sides were last reconciled.
 ghost use Rattle.std.specs.Prelude.{◌≡◌, ◌≤◌};
 
-use crate::bytes::expect;
+use crate::expected::expect;
 use parts::{Follower, Owner, PartsName, Reconciler, Since, UnnamedReconciler};
 use std::marker::{Brand, Model};
 use std::process::Abort;

@@ -1,7 +1,7 @@
 //! A number that rises, and shares of it that others took.
 ghost use Rattle.std.specs.Prelude.{◌≡◌, ◌≤◌, Some};
 
-use crate::bytes::expect;
+use crate::expected::expect;
 use parts::{Agreement, Fragment, PartsName, SharedWhole, UnnamedWhole, Whole};
 use std::marker::{Brand, Model};
 use std::process::Abort;

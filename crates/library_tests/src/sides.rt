@@ -1,7 +1,7 @@
 //! A front that goes on while the engine commits.
 ghost use Rattle.std.specs.Prelude.{◌≡◌};
 
-use crate::bytes::expect;
+use crate::expected::expect;
 use block_device::MemDevice;
 use group_commit::FrontCalls;
 use journal_model::{BlockNo, JournalError, Tid};

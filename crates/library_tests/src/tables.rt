@@ -1,6 +1,6 @@
 //! Tables by block, with answers worked out by hand.
 
-use crate::bytes::expect;
+use crate::expected::expect;
 use block_tables::{CopyTable, LastEffects, RevokeTable};
 use journal_model::{Batch, Block, BlockNo, Entry, Items, JournalError, Tid};
 use std::alloc::{AllocError, Global};

@@ -1,8 +1,8 @@
 //! Touches, with their costs and effects worked out by hand.
 ghost use Rattle.std.specs.Prelude.{◌≡◌, false};
 
-use crate::bytes::expect;
 use crate::copies::shown;
+use crate::expected::expect;
 use journal_front::{Record, Touch, Transaction, Unrecorded};
 use journal_model::{BlockNo, Entry, HandleNo, JournalError, Op, Sealed, Step, Tid};
 use std::alloc::Global;

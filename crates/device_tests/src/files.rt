@@ -1,7 +1,8 @@
 //! Devices over real files.
 ghost use Rattle.std.specs.Prelude.{◌<◌};
 
-use crate::bytes::{HOME, LOG, SIZE, Step, expect, first_wrong, write};
+use crate::bytes::{HOME, LOG, SIZE, Step, first_wrong, write};
+use crate::expected::expect;
 use block_device::Device;
 use file_device::{FileDevice, UnknownContents};
 use std::fs::{File, OpenOptions};

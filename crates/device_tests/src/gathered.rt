@@ -1,5 +1,6 @@
 //! Consecutive writes over real files.
-use crate::bytes::{HOME, LOG, Step, expect};
+use crate::bytes::{HOME, LOG, Step};
+use crate::expected::expect;
 use crate::files::{Case, Made, RIGHT, told};
 use std::test::Fail;
 

@@ -1,8 +1,6 @@
 //! Steps over a device whose blocks each hold one repeated byte.
 use block_device::{Device, DeviceFault};
 use journal_model::Area;
-use std::fmt::Debug;
-use std::process::Abort;
 
 /// Bytes of a block.
 pub const SIZE: usize = 4;
@@ -31,11 +29,6 @@ pub enum Step {
     Flushes(Area),
     /// A flush of this area fails.
     CantFlush(Area),
-}
-
-/// Asserts that both are equal.
-pub fn expect<T: PartialEq + Debug>(rt: &impl Abort, told: &T, expected: &T) {
-    assert_eq!(rt; told, expected);
 }
 
 /// Fills a block, if it exists.
