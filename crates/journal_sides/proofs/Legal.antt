@@ -10,11 +10,11 @@ use Rattle.journal_world.specs.Front.FrontEvent.{Raise}
 use Rattle.journal_world.specs.Journal.{Journal}
 use Rattle.journal_world.specs.Journal.Event.{AbortMark, Finish, FrontStep}
 use Rattle.journal_steps.specs.declared.turn.Turn.{Turn}
-use Rattle.journal_steps.specs.Journal.{TurnRefused}
+use Rattle.journal_steps.specs.Journal.{SealDid, TurnRefused}
 use Rattle.journal_steps.specs.Legal.{KeepsLegal}
 use Rattle.journal_steps.specs.Values.{JournalValue}
 use Rattle.journal_steps.proofs.LegalSteps.{legal-happens, refused-legal, same-legal, turn_of-legal}
-use Rattle.journal_sides.specs.Sides.{CatchesUp, Finishes, SealDid, Notifies}
+use Rattle.journal_sides.specs.Sides.{CatchesUp, Finishes, Notifies}
 use Rattle.journal_sides.specs.Sides.Finishes.{NoneFinished, OneFinished}
 use Rattle.journal_sides.specs.Sides.Notifies.{NotNotified, Notified}
 

@@ -1,5 +1,5 @@
 -- What a journal's calls do, each as a step of the pure machine, and why they are refused.
-use Rattle.std.specs.Prelude.{◌≡◌, ◌≢◌, ⊤, ℕ, ◌+◌, ◌/◌, ◌<◌, ◌≤◌, Bool, true, false, List, [], length, Ok, Some, None}
+use Rattle.std.specs.Prelude.{◌≡◌, ◌≢◌, ⊤, ℕ, ◌+◌, ◌/◌, ◌<◌, ◌≤◌, Bool, true, false, List, [], length, Ok, Option, Some, None}
 use Rattle.std.specs.List.{AllByRecursion}
 use Rattle.journal_model.specs.declared.entry.Entry.TheVariants.{Copy, Revoke as RevokeEntry}
 use Rattle.journal_model.specs.declared.refusal.JournalError.{JournalError}
@@ -193,6 +193,16 @@ TurnDid state Waiting old new = StopIsAwaited old.journal × (new ≡ old)
 TurnDid state Step old new = StepsCommit state old new
 TurnDid state (Sealed tid) old new = Does state old Seal new × (tid ≡ old.journal.front.running.tid) × FitsQuarter old.journal
 TurnDid state (Committed tid) old new = FinishesCommit state tid old new
+
+-- a transaction is being committed, and the device has not failed
+pub record IsCommitting (j : Journal) : Type 0 where
+  pub running : j.engine.aborted ≡ false
+  pub busy : j.engine.stage ≢ Idle
+
+-- what a seal did: nothing if another transaction is being committed; else what a commit turn does without a device call
+abbrev pub SealDid : {D : Type 0} → (D → DeviceState) → Option Turn → JournalValue D → JournalValue D → Type 0
+SealDid state None old new = IsCommitting old.journal × (new ≡ old)
+SealDid state (Some turn) old new = (old.journal.engine.stage ≡ Idle) × TurnDid state turn old new
 
 -- why a commit turn is refused
 pub data TurnRefused {D : Type 0} (state : D → DeviceState) (old new : JournalValue D) : JournalError → Type 0 where

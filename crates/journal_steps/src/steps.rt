@@ -15,7 +15,7 @@ ghost use Rattle.journal_world.specs.Journal.Event.{DirectSync, DirectWrite, Rea
 ghost use Rattle.block_device.specs.Call.{MakesOneCall, OnlyReads};
 ghost use Rattle.log_engine.specs.Left.{commit_calls};
 ghost use Rattle.journal_steps.specs.declared.turn.CheckTurn.TheVariants.{Idle as IdleCheck};
-ghost use Rattle.journal_steps.specs.Journal.{Agrees, CheckTurnDid, CheckTurnRefused, Does, FitsQuarter, HandsOut, HasRoomFor, HoldsCopy, IsDuringCheckTurn, IsDuringTurn, LeavesFewerRounds, NewestRefused, NoCopy, RegistersRead, OpensNow, ReadRefused, ReadsNewest, SealIsDue, TurnDid, TurnRefused, need_of};
+ghost use Rattle.journal_steps.specs.Journal.{Agrees, CheckTurnDid, CheckTurnRefused, Does, FitsQuarter, HandsOut, HasRoomFor, HoldsCopy, IsDuringCheckTurn, IsDuringTurn, LeavesFewerRounds, NewestRefused, NoCopy, RegistersRead, OpensNow, ReadRefused, ReadsNewest, SealDid, SealIsDue, TurnDid, TurnRefused, need_of};
 ghost use Rattle.journal_steps.specs.Legal.{KeepsLegal};
 ghost use Rattle.journal_steps.specs.Direct.{DirectSyncRefused, DirectWriteRefused, IsDuringDirectSync, IsDuringDirectWrite, MayWriteDirectly};
 ghost use Rattle.journal_front.specs.Front.{MayStep};
@@ -194,19 +194,45 @@ pub fn commit_turn<D: Device, R: Record>(
     ensures device { MakesOneCall D.state D.honest (IsDuringTurn (together front.old engine.old).journal (D.state engine.old.device).disk) engine.old.device engine.new.device }
 {
     engine.recall_invariant();
+    match seal_due(front, engine)? {
+        Some(turn) => Ok(turn),
+        None => commit_step(front, engine),
+    }
+}
+
+/// Seals a transaction that is locked without open handles, with no device call. None, and nothing is done, if another is being committed:
+/// a step of that commit is then due.
+///
+/// # Errors
+///
+/// `Aborted`. `NeedSpace` (too few free ring blocks), `Memory`: nothing changes.
+/// Source: fs/jbd2/commit.c by behaviour.
+pub fn seal_due<D: Device, R: Record>(
+    front: &mut Front<R>,
+    engine: &mut Engine<D>,
+) -> Result<Option<Turn>, JournalError>
+    requires agrees { Agrees (together front.old engine.old).journal }
+    ensures agrees { Agrees (together front.new engine.new).journal }
+    ensures ok { IfOk result (λ turn. SealDid D.state turn (together front.old engine.old) (together front.new engine.new)) }
+    ensures err { IfErr result (λ e. TurnRefused D.state (together front.old engine.old) (together front.new engine.new) e) }
+    ensures device { engine.new.device ≡ engine.old.device }
+{
     if engine.is_aborted() {
         return Err(JournalError::Aborted);
     }
     if !engine.is_idle() {
-        return commit_step(front, engine);
+        return Ok(None);
     }
     if !front.is_locked() {
-        return Ok(Turn::Idle);
+        return Ok(Some(Turn::Idle));
     }
     if front.has_open_handles() {
-        return Ok(Turn::Waiting);
+        return Ok(Some(Turn::Waiting));
     }
-    seal(front, engine)
+    match seal(front, engine) {
+        Ok(turn) => Ok(Some(turn)),
+        Err(e) => Err(e),
+    }
 }
 
 /// Takes one step of the commit under way. After the last one the front records and acknowledges the commit.

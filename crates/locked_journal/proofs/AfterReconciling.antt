@@ -13,10 +13,10 @@ use Rattle.journal_front.specs.Values.{HandleValue}
 use Rattle.journal_steps.specs.declared.turn.Turn.{Turn}
 use Rattle.journal_steps.specs.declared.turn.Turn.TheVariants.{Idle as IdleTurn, Waiting, Step, Sealed, Committed}
 use Rattle.journal_steps.specs.Direct.{DirectSyncRefused, DirectWriteRefused, MayWriteDirectly}
-use Rattle.journal_steps.specs.Journal.{Does, NewestRefused, RegistersRead, ReadRefused, ReadsNewest, TurnDid, TurnRefused}
+use Rattle.journal_steps.specs.Journal.{Does, NewestRefused, RegistersRead, ReadRefused, ReadsNewest, SealDid, TurnDid, TurnRefused}
 use Rattle.journal_steps.specs.Journal.TurnRefused.{DeviceFailed, MemoryIsShort, RingIsShort, WasAborted}
 use Rattle.journal_steps.specs.Values.{JournalValue}
-use Rattle.journal_sides.specs.Sides.{Finishes, HeldReadDid, Reconciles, ReconcilesAnd, SealDid, Notifies, engine_of}
+use Rattle.journal_sides.specs.Sides.{Finishes, HeldReadDid, Reconciles, ReconcilesAnd, Notifies, engine_of}
 use Rattle.journal_sides.specs.Sides.Finishes.{NoneFinished, OneFinished}
 use Rattle.journal_sides.specs.Sides.Notifies.{NotNotified, Notified}
 use Rattle.locked_journal.specs.declared.own.HandleStage.{HandleStage}
