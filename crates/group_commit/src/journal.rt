@@ -617,12 +617,6 @@ impl<D: Device, R: Record> FrontCalls<D> for Journal<D, R> {
     }
 
     fn request_commit(&mut self, tid: Tid) -> Result<(), JournalError> {
-        if self.front.is_aborted() {
-            return Err(JournalError::Aborted);
-        }
-        if tid == self.front.tid() {
-            self.front.lock();
-        }
-        Ok(())
+        self.front.request_commit(tid)
     }
 }

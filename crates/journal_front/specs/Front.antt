@@ -1,5 +1,5 @@
 -- The front as contracts see it, and why its calls are refused.
-use Rattle.std.specs.Prelude.{◌≡◌, ℕ, ◌+◌, ◌-◌, ◌^◌, ◌<◌, ◌≤◌, nat_eq, true, false, length, Some}
+use Rattle.std.specs.Prelude.{◌≡◌, ◌≢◌, ℕ, ◌+◌, ◌-◌, ◌^◌, ◌<◌, ◌≤◌, nat_eq, true, false, length, Some}
 use Rattle.std.specs.List.{AllByRecursion}
 use Rattle.std.specs.Map.{lookup}
 use Rattle.journal_model.specs.declared.refusal.JournalError.{JournalError}
@@ -7,7 +7,8 @@ use Rattle.journal_model.specs.declared.refusal.JournalError.TheVariants.{Aborte
 use Rattle.journal_model.specs.Block.{IsAllowedBlock}
 use Rattle.journal_model.specs.Layout.{IsLayout}
 use Rattle.log_model.specs.Opening.{greatest_number}
-use Rattle.journal_world.specs.Front.{Front, IsFirstTouch, MayJoin, held, next_handle}
+use Rattle.journal_world.specs.Front.{Front, FrontHappens, IsFirstTouch, MayJoin, held, next_handle}
+use Rattle.journal_world.specs.Front.FrontEvent.{Lock}
 use Rattle.journal_front.specs.Values.{HandleValue}
 
 -- a front's invariant: at most `capacity` credits are held, each open handle's number was given out, handle and transaction numbers are
@@ -74,6 +75,13 @@ pub data TouchRefused (f : Front) (h : HandleValue) (b : ℕ) (e : JournalError)
   KeptOut : IsKeptOut f h b e → TouchRefused f h b e
   WithoutCredit : MayStep f h b → IsFirstTouch f b → h.left ≡ 0 → e ≡ NoCredit → TouchRefused f h b e
   WithoutMemory : MayStep f h b → (IsFirstTouch f b → 0 < h.left) → e ≡ Memory → TouchRefused f h b e
+
+-- a request locks the transaction with this number, if it is running and a handle has joined it; else nothing changes
+pub record RequestsCommit (tid : ℕ) (old new : Front) : Type 0 where
+  pub running : old.aborted ≡ false
+  pub same : tid ≡ old.running.tid → 0 < length old.running.handles → FrontHappens old Lock new
+  pub other : tid ≢ old.running.tid → new ≡ old
+  pub empty : length old.running.handles ≡ 0 → new ≡ old
 
 -- a first touch takes one of the handle's credits, a later one none
 pub record Spends (f : Front) (b : ℕ) (old new : HandleValue) : Type 0 where

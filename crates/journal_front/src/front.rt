@@ -2,14 +2,14 @@
 ghost use Rattle.std.specs.Prelude.{◌≡◌, ◌+◌, ◌-◌, ◌<◌, ◌≤◌, ◌↔◌, nat_eq, true, false, [], IsTrue, length, None, OnOk, IfOk, IfErr, Some};
 ghost use Rattle.std.specs.Map.{lookup};
 ghost use Rattle.std.specs.Option.{option_copied};
-ghost use Rattle.journal_model.specs.declared.refusal.JournalError.TheVariants.{Memory};
+ghost use Rattle.journal_model.specs.declared.refusal.JournalError.TheVariants.{Aborted, Memory};
 ghost use Rattle.journal_model.specs.Layout.{IsLayout};
 ghost use Rattle.log_model.specs.Opening.{greatest_number};
 ghost use Rattle.journal_model.specs.Transaction.{copied, entries, last_effect, revoked};
 ghost use Rattle.journal_world.specs.Front.{FrontHappens, IsOpen, IsUntouched, aborting, finishing, fresh_front, held, next_handle, reading_block, sealing, unfinished};
 ghost use Rattle.journal_world.specs.Front.FrontEvent.{ExtendHandle, GiveBack, Join, Lock, Raise, Reserve, RevokeBlock, StopHandle, WriteBlock};
 ghost use Rattle.journal_world.specs.Journal.{batch_of};
-ghost use Rattle.journal_front.specs.Front.{ExtendRefused, IsKeptOut, IsOpenHandle, JoinRefused, MayExtend, MayStep, MayTouch, ReserveRefused, Spends, TouchRefused};
+ghost use Rattle.journal_front.specs.Front.{ExtendRefused, IsKeptOut, IsOpenHandle, JoinRefused, MayExtend, MayStep, MayTouch, RequestsCommit, ReserveRefused, Spends, TouchRefused};
 
 use crate::Transaction;
 use crate::handle::{Credits, Handle};
@@ -369,6 +369,25 @@ impl<R: Record> Front<R> {
         ensures empty { length self.old.running.handles ≡ 0 → self.new ≡ self.old }
     {
         self.running.lock();
+    }
+
+    /// Requests the commit of the transaction with this number: if it is running and a handle has joined it, it takes no further handles.
+    ///
+    /// # Errors
+    ///
+    /// `Aborted` after a device failure: nothing changes.
+    /// Source: fs/jbd2/journal.c by behaviour (`jbd2_log_start_commit`).
+    pub fn request_commit(&mut self, tid: Tid) -> Result<(), JournalError>
+        ensures ok { OnOk result (RequestsCommit tid self.old self.new) }
+        ensures err { IfErr result (λ e. (e ≡ Aborted) × (self.old.aborted ≡ true) × (self.new ≡ self.old)) }
+    {
+        if self.is_aborted() {
+            return Err(JournalError::Aborted);
+        }
+        if tid == self.tid() {
+            self.lock();
+        }
+        Ok(())
     }
 
     /// Whether the running transaction is locked.

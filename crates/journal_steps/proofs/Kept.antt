@@ -1,11 +1,15 @@
 -- A front and an engine agree after each call of the front, whatever it answers.
-use Rattle.std.proofs.Common.{arith, sym, subst, ⊎_elim}
-use Rattle.std.specs.Prelude.{◌≡◌, ◌⊎◌, ℕ, ◌<◌, ◌≤◌, Result, Ok, Err, IfErr, IfOk, OnOk, List, length}
-use Rattle.std.proofs.lemmas.Bool.Decides.{leb_tells}
+use Rattle.std.proofs.Common.{arith, refl, ap, sym, subst, ⊎_elim}
+use Rattle.std.specs.Prelude.{◌≡◌, ◌≢◌, ◌⊎◌, ℕ, ◌<◌, ◌≤◌, Result, Ok, Err, IfErr, IfOk, OnOk, List, length}
+use Rattle.std.proofs.lemmas.Bool.Decides.{eqb_tells, leb_tells}
 use Rattle.journal_world.specs.Engine.{Engine}
 use Rattle.journal_world.specs.Front.{Front, FrontEvent, FrontHappens}
 use Rattle.journal_world.specs.Front.FrontEvent.{ExtendHandle, GiveBack, Join, Lock, Reserve, RevokeBlock, StopHandle, WriteBlock}
-use Rattle.journal_steps.specs.Journal.{Agrees}
+use Rattle.block_device.specs.State.{DeviceState}
+use Rattle.log_engine.specs.Engine.{EngineValue}
+use Rattle.journal_front.specs.Front.{RequestsCommit}
+use Rattle.journal_steps.specs.Journal.{Agrees, Requests}
+use Rattle.journal_steps.specs.Values.{together}
 use Rattle.journal_steps.proofs.Sealing.{IsTouch, agrees-revoked, agrees-untouched, agrees-written}
 
 module _ (f front : Front) (e : Engine) (agrees : Agrees (record { front = f; engine = e })) where
@@ -61,6 +65,16 @@ module _ (f front : Front) (e : Engine) (agrees : Agrees (record { front = f; en
       (λ (some : _ × (0 < length f.running.handles)). kept-step Lock (λ touch. touch) (locks some.1))
       (leb_tells (length f.running.handles) 0)
 
+  -- after a request, made or refused
+  pub kept-request : {A R : Type 0} (Why Rest : R → Type 0) (r : Result A R) (tid : ℕ) → OnOk r (RequestsCommit tid f front) →
+      IfErr r (λ x. Why x × Rest x × (front ≡ f)) → Agrees (record { front = front; engine = e })
+  kept-request Why Rest (Ok a) tid ok err =
+      ⊎_elim
+      (λ (here : _ × (tid ≡ f.running.tid)). kept-lock (ok.same here.1) ok.empty)
+      (λ (other : _ × (tid ≢ f.running.tid)). kept-same (ok.other other.1))
+      (eqb_tells tid f.running.tid)
+  kept-request Why Rest (Err x) tid ok err = kept-same err.2
+
   -- after a write
   pub kept-write : {A R : Type 0} (Why Rest : R → Type 0) (r : Result A R) (h b : ℕ) (v : List ℕ) → e.layout.block_size ≡ e.shape.block_size →
       OnOk r (FrontHappens f (WriteBlock h b v) front) → IfErr r (λ x. Why x × (front ≡ f) × Rest x) → Agrees (record { front = front; engine = e })
@@ -72,3 +86,14 @@ module _ (f front : Front) (e : Engine) (agrees : Agrees (record { front = f; en
       IfErr r (λ x. Why x × (front ≡ f) × Rest x) → Agrees (record { front = front; engine = e })
   kept-revoke Why Rest (Ok a) h b ok err = agrees-revoked f front e h b agrees ok
   kept-revoke Why Rest (Err x) h b ok err = kept-same err.1
+
+-- a request that the front made is one of the journal
+pub requested : {D A R : Type 0} (state : D → DeviceState) (r : Result A R) (tid : ℕ) (f front : Front) (e : EngineValue D) →
+    OnOk r (RequestsCommit tid f front) → OnOk r (Requests state tid (together f e) (together front e))
+requested state (Ok a) tid f front e ok = record {
+  running = ok.running;
+  same = λ here joined. record { front = ok.same here joined; engine = refl; disk_is = refl };
+  other = λ other. ap (λ (x : Front). together x e) (ok.other other);
+  empty = λ none. ap (λ (x : Front). together x e) (ok.empty none);
+}
+requested state (Err x) tid f front e ok = ok

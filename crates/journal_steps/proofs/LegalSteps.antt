@@ -1,7 +1,7 @@
 -- Each step of a journal leaves its record legal.
 use Rattle.std.proofs.Common.{refl, sym, ap, subst, ◌∙◌, arith, ⊎_elim}
-use Rattle.std.specs.Prelude.{◌≡◌, ◌⊎◌, ℕ, ◌<◌, ◌≤◌, List, [], ◌∷◌, ◌++◌, length, Some, Result, Ok, Err, IfErr, IfOk, OnOk}
-use Rattle.std.proofs.lemmas.Bool.Decides.{leb_tells}
+use Rattle.std.specs.Prelude.{◌≡◌, ◌≢◌, ◌⊎◌, ℕ, ◌<◌, ◌≤◌, List, [], ◌∷◌, ◌++◌, length, Some, Result, Ok, Err, IfErr, IfOk, OnOk}
+use Rattle.std.proofs.lemmas.Bool.Decides.{eqb_tells, leb_tells}
 use Rattle.journal_model.specs.declared.entry.Entry.TheVariants.{Copy, Revoke as RevokeEntry}
 use Rattle.journal_model.specs.declared.number.Area.TheVariants.{Home}
 use Rattle.journal_model.specs.declared.refusal.JournalError.{JournalError}
@@ -14,6 +14,7 @@ use Rattle.journal_world.specs.Front.{Front, FrontEvent, FrontHappens, finished_
 use Rattle.journal_world.specs.Front.FrontEvent.{Reserve, RefuseReserve, TakeBack, GiveBack, LoadCredits, LoadMark, Join, ExtendHandle, WriteBlock, RevokeBlock, StopHandle, Lock, Raise}
 use Rattle.journal_world.specs.Journal.{Event, Happens, Journal}
 use Rattle.journal_world.specs.Journal.Event.{FrontStep, Seal, CommitStep, CommitFault, CheckpointStep, CheckpointFault, ReadBlock, ReadFault, DirectWrite, DirectWriteFault, DirectSync, DirectSyncFault, Finish, AbortMark}
+use Rattle.journal_front.specs.Front.{RequestsCommit}
 use Rattle.journal_front.specs.Values.{HandleValue}
 use Rattle.journal_steps.specs.declared.turn.CheckTurn.{CheckTurn}
 use Rattle.journal_steps.specs.declared.turn.CheckTurn.TheVariants.{Idle as IdleCheck, Step as StepCheck, Released}
@@ -123,6 +124,15 @@ module _ (f front : Front) (legal : IsLegal (transactions f)) where
       (λ (none : _ × (length f.running.handles ≤ 0)). kept_legal-same (empty (omega (arith, none.1))))
       (λ (some : _ × (0 < length f.running.handles)). kept_legal-step Lock (locks some.1))
       (leb_tells (length f.running.handles) 0)
+
+  pub kept_legal-request : {A R : Type 0} (Why Rest : R → Type 0) (r : Result A R) (tid : ℕ) → OnOk r (RequestsCommit tid f front) →
+      IfErr r (λ x. Why x × Rest x × (front ≡ f)) → IsLegal (transactions front)
+  kept_legal-request Why Rest (Ok a) tid ok err =
+      ⊎_elim
+      (λ (here : _ × (tid ≡ f.running.tid)). kept_legal-lock (ok.same here.1) ok.empty)
+      (λ (other : _ × (tid ≢ f.running.tid)). kept_legal-same (ok.other other.1))
+      (eqb_tells tid f.running.tid)
+  kept_legal-request Why Rest (Err x) tid ok err = kept_legal-same err.2
 
   -- so do a write and a revoke
   pub kept_legal-touch : {A R : Type 0} (Why Rest : R → Type 0) (r : Result A R) (event : FrontEvent) →
