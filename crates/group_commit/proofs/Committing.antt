@@ -1,6 +1,7 @@
 -- What a request and all turns after it come to.
 use Rattle.std.proofs.Common.{refl, sym, ◌∙◌, ap, subst, arith, ⊎_elim}
 use Rattle.std.specs.Prelude.{◌≡◌, ◌≢◌, ℕ, zero, suc, ◌-◌, ◌<◌, Bool, true, false, length, eqb, Result, Ok, Err, IfErr, OnOk}
+use Rattle.std.proofs.lemmas.Bool.{true≢false}
 use Rattle.std.proofs.lemmas.Bool.Decides.{eqb_tells}
 use Rattle.journal_model.specs.declared.refusal.JournalError.{JournalError}
 use Rattle.journal_model.specs.declared.refusal.JournalError.TheVariants.{Device}
@@ -14,11 +15,11 @@ use Rattle.journal_steps.specs.Values.{JournalValue}
 use Rattle.log_epochs.specs.EngineWorld.Phase.{Running}
 use Rattle.group_commit.specs.AllTurns.{AllTurnsRefused, CommitsAll, IsReadyToSeal, ReleaseRefused}
 use Rattle.group_commit.specs.AllTurns.AllTurnsRefused.{FailedSealed, FailedUnsealed, SealUnready, StaysReady}
-use Rattle.group_commit.specs.AllTurns.CommitsAll.{WithRunning, WithoutRunning}
-use Rattle.group_commit.specs.AllTurns.ReleaseRefused.{ReleaseFailed}
-use Rattle.group_commit.specs.Close.{ComesTo, HasSealed, LastRefused, Went, WentWrong, locked_journal}
+use Rattle.group_commit.specs.AllTurns.CommitsAll.{WithRunning}
+use Rattle.group_commit.specs.AllTurns.ReleaseRefused.{ReleaseAborted, ReleaseFailed}
+use Rattle.group_commit.specs.Close.{ComesTo, GoesOn, HasSealed, LastRefused, Went, WentWrong, locked_journal}
 use Rattle.group_commit.specs.Close.LastRefused.{FailedBefore, FailedAfter, LeftUnsealed, NotMadeReady}
-use Rattle.group_commit.specs.Rounds.{KeepsRoom, MakesNoRound, MakesRoomAlone}
+use Rattle.group_commit.specs.Rounds.{KeepsRoom, MakesRoomAlone}
 use Rattle.group_commit.proofs.Finishing.{sealed-went}
 use Rattle.group_commit.proofs.Leading.{comes-same, comes-step}
 
@@ -46,41 +47,13 @@ module _ {D : Type 0} (state : D → DeviceState) where
   pub asked-way : (tid : ℕ) (old new : JournalValue D) → Requests state tid old new → ComesBy old new
   asked-way tid old new asks = asked-of tid old new asks (length old.journal.front.running.handles) refl
 
-  -- if the running transaction was not ready, finishing the commit under way commits all that can be
-  pub none-ready : {T : Type 0} (r : Result T JournalError) (old new : JournalValue D) → (IsReadyToSeal old.journal.front → ⊥) →
-      OnOk r (Went state old new) → OnOk r (MakesNoRound old.journal.engine new.journal.engine) → OnOk r (CommitsAll state old new)
-  none-ready (Ok x) old new unready went none = WithoutRunning unready went none
-  none-ready (Err e) old new unready went none = tt
-
-  -- if it was ready, sealing and committing it commits all that can be, with turns ahead of need
-  pub ready-sealed : {T : Type 0} (r : Result T JournalError) (old mid new : JournalValue D) (turns : ℕ) → IsReadyToSeal old.journal.front →
-      HasSealed state old mid → MakesRoomAlone state old mid → mid.journal.engine.stage ≡ Idle →
-      turns ≡ mid.journal.engine.start - old.journal.engine.start → OnOk r (Went state mid new) → OnOk r (KeepsRoom state turns mid new) →
-      OnOk r (CommitsAll state old new)
-  ready-sealed (Ok x) old mid new turns ready has room idle same went ahead =
+  -- sealing and committing a ready running transaction commits all that can be, with turns ahead of need
+  pub ready-sealed : (old mid new : JournalValue D) (turns : ℕ) → IsReadyToSeal old.journal.front → HasSealed state old mid →
+      MakesRoomAlone state old mid → mid.journal.engine.stage ≡ Idle → turns ≡ mid.journal.engine.start - old.journal.engine.start →
+      Went state mid new → KeepsRoom state turns mid new → CommitsAll state old new
+  ready-sealed old mid new turns ready has room idle same went ahead =
       WithRunning ready (sealed-went state old mid new has went)
       (record { done = mid; alone = room; idle = idle; ahead = subst (λ (n : ℕ). KeepsRoom state n mid new) same ahead })
-  ready-sealed (Err e) old mid new turns ready has room idle same went ahead = tt
-
-  -- these turns leave the device's shape
-  pub ahead-shape : {T : Type 0} (r : Result T JournalError) (old mid new : JournalValue D) → (state mid.device).shape ≡ (state old.device).shape →
-      OnOk r (Went state mid new) → IfErr r (λ e. (e ≡ Device) × WentWrong state mid new) → (state new.device).shape ≡ (state old.device).shape
-  ahead-shape (Ok x) old mid new same went wrong = went.on.shape ∙ same
-  ahead-shape (Err e) old mid new same went wrong = wrong.1.on.shape ∙ same
-
-  -- a device failure in these turns refuses the turns, though all is committed
-  pub ahead-failed : {T : Type 0} (r : Result T JournalError) (old mid new : JournalValue D) → old.journal.engine.aborted ≡ false →
-      IsReadyToSeal old.journal.front → HasSealed state old mid → IfErr r (λ e. (e ≡ Device) × WentWrong state mid new) →
-      IfErr r (AllTurnsRefused state old new)
-  ahead-failed (Ok x) old mid new running ready has wrong = tt
-  ahead-failed (Err e) old mid new running ready has wrong =
-      subst (AllTurnsRefused state old new) (sym wrong.0) (FailedSealed running ready mid has wrong.1)
-
-  -- a device failure in the commit under way refuses the turns
-  pub turns-failed : {T : Type 0} (r : Result T JournalError) (old new : JournalValue D) → old.journal.engine.aborted ≡ false →
-      IfErr r (λ e. (e ≡ Device) × WentWrong state old new) → IfErr r (AllTurnsRefused state old new)
-  turns-failed (Ok x) old new running wrong = tt
-  turns-failed (Err e) old new running wrong = subst (AllTurnsRefused state old new) (sym wrong.0) (FailedUnsealed running wrong.1)
 
   -- locking a locked journal changes nothing
   locked-same : (v : JournalValue D) → v.journal.front.locked ≡ true → locked_journal v ≡ v
@@ -98,8 +71,19 @@ module _ {D : Type 0} (state : D → DeviceState) where
       StaysReady running ready joined (subst (Went state old) (sym same) went)
       (subst (λ (v : JournalValue D). v.journal.engine.committed ≡ length v.journal.front.sealed) (sym same) all)
 
-  -- refused rounds have failed
-  pub release-failed : {T : Type 0} (r : Result T JournalError) (old new : JournalValue D) → old.journal.engine.aborted ≡ false →
-      IfErr r (λ e. (e ≡ Device) × WentWrong state old new) → IfErr r (ReleaseRefused state old new)
-  release-failed (Ok x) old new running wrong = tt
-  release-failed (Err e) old new running wrong = subst (ReleaseRefused state old new) (sym wrong.0) (ReleaseFailed running wrong.1)
+  -- refused rounds have failed, if the device had not failed before
+  pub rounds-wrong : (old new : JournalValue D) (e : JournalError) → old.journal.engine.aborted ≡ false → ReleaseRefused state old new e →
+      (e ≡ Device) × WentWrong state old new
+  rounds-wrong old new e running (ReleaseAborted was same) = absurd (true≢false (sym was ∙ running))
+  rounds-wrong old new e running (ReleaseFailed was wrong) = (refl, wrong)
+
+  pub rounds-refused : {T : Type 0} (r : Result T JournalError) (old new : JournalValue D) → old.journal.engine.aborted ≡ false →
+      IfErr r (ReleaseRefused state old new) → IfErr r (λ e. (e ≡ Device) × WentWrong state old new)
+  rounds-refused (Ok x) old new running refused = tt
+  rounds-refused (Err e) old new running refused = rounds-wrong old new e running refused
+
+  -- whatever they answer, moves of the machine lead on
+  pub rounds-go-on : {T : Type 0} (r : Result T JournalError) (old new : JournalValue D) → old.journal.engine.aborted ≡ false →
+      OnOk r (Went state old new) → IfErr r (ReleaseRefused state old new) → GoesOn state old new
+  rounds-go-on (Ok x) old new running went refused = went.on
+  rounds-go-on (Err e) old new running went refused = (rounds-wrong old new e running refused).1.on

@@ -1,14 +1,13 @@
 -- The device calls of turns, in sequence.
 use Rattle.std.proofs.Common.{refl, sym, ◌∙◌, ap, subst, arith, ⊎_elim}
-use Rattle.std.specs.Prelude.{◌≡◌, ◌≢◌, ℕ, zero, suc, ◌<◌, true, false, length, eqb, ◌+◌, ◌≤◌, Result, Ok, Err, IfErr, IfOk, MatchResult}
+use Rattle.std.specs.Prelude.{◌≡◌, ◌≢◌, ℕ, zero, suc, true, false, length, eqb, Result, Ok, Err, IfErr, IfOk, MatchResult}
 use Rattle.std.proofs.lemmas.Bool.{true≢false}
 use Rattle.std.proofs.lemmas.Bool.Decides.{eqb_tells}
 use Rattle.journal_model.specs.declared.refusal.JournalError.{JournalError}
-use Rattle.journal_model.specs.Disk.{Disk}
 use Rattle.journal_model.specs.Transaction.{History}
 use Rattle.block_device.specs.State.{DeviceState, MakesAtMostOneCall}
 use Rattle.journal_world.specs.declared.stage.Stage.TheVariants.{Idle}
-use Rattle.journal_world.specs.Engine.{Accepts, CommitFaults, CommitSteps, Engine}
+use Rattle.journal_world.specs.Engine.{CommitFaults, CommitSteps, Engine}
 use Rattle.journal_world.specs.Checkpoint.{RoundFaults}
 use Rattle.journal_world.specs.Journal.{Journal, batch_of}
 use Rattle.journal_world.specs.Journal.Event.{Seal}

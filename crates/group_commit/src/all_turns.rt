@@ -1,5 +1,5 @@
 //! Calls that take many turns: commit one transaction, commit all, make room ahead of need, release all.
-ghost use Rattle.std.specs.Prelude.{◌≡◌, ◌≤◌, false, IfErr, IfOk, OnOk};
+ghost use Rattle.std.specs.Prelude.{◌≡◌, ◌≤◌, IfErr, IfOk, OnOk};
 ghost use Rattle.journal_world.specs.declared.stage.Stage.TheVariants.{Idle};
 ghost use Rattle.log_epochs.specs.EngineWorld.Phase.{Running};
 ghost use Rattle.group_commit.specs.AllTurns.{AllTurnsRefused, CommitRefused, CommitsAll, CommitsThrough, ReleaseRefused};
@@ -9,14 +9,14 @@ ghost use Rattle.group_commit.specs.During.{HoldsDuringRounds, HoldsDuringTurns}
 ghost use Rattle.group_commit.specs.Rounds.{KeepsRoom};
 ghost use Rattle.journal_steps.specs.Journal.{NothingToRelease};
 
-use crate::ahead::keep_room;
-use crate::close::{finish_commit, release_all, seal_last};
+use crate::close::{finish_commit, seal_last};
 use crate::front_calls::FrontCalls;
 use crate::journal::Journal;
 use crate::ticket::{Receipt, Ticket};
 use block_device::Device;
 use journal_front::Record;
 use journal_model::{JournalError, Tid};
+use journal_steps::CheckTurn;
 
 impl<D: Device, R: Record> Journal<D, R> {
     /// Requests the commit of the ticket's transaction and takes all turns, as `commit_all` does; the ticket becomes its receipt.
@@ -89,7 +89,14 @@ impl<D: Device, R: Record> Journal<D, R> {
         if self.is_aborted() {
             return Err(JournalError::Aborted);
         }
-        commit_ready(self)?;
+        if self.is_ready() {
+            let before = self.position();
+            seal_last(self)?;
+            let blocks = self.position().saturating_sub(before);
+            self.keep_room(blocks)?;
+            return Ok(self.mark());
+        }
+        finish_commit(self)?;
         Ok(self.mark())
     }
 
@@ -97,6 +104,9 @@ impl<D: Device, R: Record> Journal<D, R> {
     /// not released take at least half of the ring, or 640 of its blocks. Whoever takes commit turns makes room ahead of need by it: after
     /// each commit, as many turns as the commit had. It takes no commit step, and leaves handles and credits. It makes the device calls of
     /// its rounds alone, and at each moment the crash image opens as between them.
+    ///
+    /// A round writes no more blocks than the ring had taken when it began. With as many turns for each commit as that took ring blocks, it is
+    /// over when about as many more are taken.
     ///
     /// # Errors
     ///
@@ -117,7 +127,14 @@ impl<D: Device, R: Record> Journal<D, R> {
         if self.is_aborted() {
             return Err(JournalError::Aborted);
         }
-        keep_room(self, turns)
+        for _ in 0..turns {
+            self.recall_invariant();
+            if !self.is_round_due() {
+                return Ok(());
+            }
+            self.checkpoint_turn()?;
+        }
+        Ok(())
     }
 
     /// Takes checkpoint turns until everything committed is home and the whole ring is free. It takes no commit step, and leaves
@@ -143,28 +160,15 @@ impl<D: Device, R: Record> Journal<D, R> {
         if self.is_aborted() {
             return Err(JournalError::Aborted);
         }
-        release_all(self)
+        loop {
+            self.recall_invariant();
+            match self.checkpoint_turn()? {
+                CheckTurn::Idle => {
+                    self.recall_invariant();
+                    return Ok(());
+                }
+                CheckTurn::Step | CheckTurn::Released(_) => {}
+            }
+        }
     }
-}
-
-/// Finishes the commit under way, then seals and commits the running transaction if it is ready, and takes checkpoint turns ahead of need.
-fn commit_ready<D: Device, R: Record>(journal: &mut Journal<D, R>) -> Result<(), JournalError>
-    requires { journal.old.journal.engine.aborted ≡ false }
-    ensures ok { OnOk result (CommitsAll D.state journal.old journal.new) }
-    ensures idle { OnOk result (journal.new.journal.engine.stage ≡ Idle) }
-    ensures err { IfErr result (AllTurnsRefused D.state journal.old journal.new) }
-    ensures path { ComesTo journal.old.journal (D.state journal.old.device).disk journal.new.journal (D.state journal.new.device).disk Running }
-    ensures shape { (D.state journal.new.device).shape ≡ (D.state journal.old.device).shape }
-    ensures calls { CallsForTurns D.state journal.old journal.new }
-    ensures moments { D.honest journal.new.device → HoldsDuringTurns D.state journal.old journal.new }
-    ensures honest { D.honest journal.new.device → D.honest journal.old.device }
-{
-    journal.recall_invariant();
-    if journal.is_ready() {
-        let before = journal.position();
-        seal_last(journal)?;
-        let blocks = journal.position().saturating_sub(before);
-        return keep_room(journal, blocks);
-    }
-    finish_commit(journal)
 }

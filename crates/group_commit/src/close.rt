@@ -4,16 +4,15 @@ ghost use Rattle.journal_model.specs.declared.refusal.JournalError.TheVariants.{
 ghost use Rattle.journal_world.specs.declared.stage.Stage.TheVariants.{Idle};
 ghost use Rattle.log_epochs.specs.EngineWorld.Phase.{Running};
 ghost use Rattle.group_commit.specs.Calls.{CallsForTurns};
-ghost use Rattle.group_commit.specs.During.{HoldsDuringRounds, HoldsDuringTurns};
+ghost use Rattle.group_commit.specs.During.{HoldsDuringTurns};
 ghost use Rattle.group_commit.specs.Close.{CloseRefused, ComesTo, HasSealed, IsFinished, LastRefused, Went, WentWrong};
 ghost use Rattle.group_commit.specs.Rounds.{MakesNoRound, MakesRoomAlone};
-ghost use Rattle.journal_steps.specs.Journal.{HasRoomFor, NothingToRelease};
+ghost use Rattle.journal_steps.specs.Journal.{HasRoomFor};
 
 use crate::journal::Journal;
 use block_device::Device;
 use journal_front::Record;
 use journal_model::JournalError;
-use journal_steps::CheckTurn;
 
 /// Seals the running transaction if a handle has joined it, then commits and releases everything.
 pub(crate) fn finish<D: Device, R: Record>(journal: &mut Journal<D, R>) -> Result<(), JournalError>
@@ -36,7 +35,7 @@ pub(crate) fn finish<D: Device, R: Record>(journal: &mut Journal<D, R>) -> Resul
     } else {
         finish_commit(journal)?;
     }
-    release_all(journal)
+    journal.release_all()
 }
 
 /// Seals and commits the running transaction, after the commit under way. It requests all memory first: if that runs out, nothing is
@@ -103,34 +102,5 @@ fn make_room<D: Device, R: Record>(journal: &mut Journal<D, R>) -> Result<(), Jo
     if journal.has_room() {
         return Ok(());
     }
-    release_all(journal)
-}
-
-/// Takes checkpoint steps until everything committed is released.
-pub(crate) fn release_all<D: Device, R: Record>(
-    journal: &mut Journal<D, R>,
-) -> Result<(), JournalError>
-    requires { journal.old.journal.engine.aborted ≡ false }
-    ensures ok { OnOk result (Went D.state journal.old journal.new) }
-    ensures released { OnOk result (NothingToRelease journal.new.journal.engine) }
-    ensures free { OnOk result (journal.new.journal.engine.start ≡ journal.new.journal.engine.tail) }
-    ensures stage { journal.new.journal.engine.stage ≡ journal.old.journal.engine.stage }
-    ensures committed { journal.new.journal.engine.committed ≡ journal.old.journal.engine.committed }
-    ensures front { OnOk result (journal.new.journal.front ≡ journal.old.journal.front) }
-    ensures err { IfErr result (λ e. (e ≡ DeviceFailed) × WentWrong D.state journal.old journal.new) }
-    ensures calls { CallsForTurns D.state journal.old journal.new }
-    ensures moments { D.honest journal.new.device → HoldsDuringRounds D.state journal.old journal.new }
-    ensures honest { D.honest journal.new.device → D.honest journal.old.device }
-{
-    journal.recall_invariant();
-    loop {
-        journal.recall_invariant();
-        match journal.checkpoint_turn()? {
-            CheckTurn::Idle => {
-                journal.recall_invariant();
-                return Ok(());
-            }
-            CheckTurn::Step | CheckTurn::Released(_) => {}
-        }
-    }
+    journal.release_all()
 }

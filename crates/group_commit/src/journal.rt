@@ -20,7 +20,7 @@ ghost use Rattle.log_engine.specs.Close.{IsAllReleased, MakesCloseCalls};
 ghost use Rattle.log_engine.specs.Left.{commit_calls};
 ghost use Rattle.log_engine.specs.Rounds.{IsRoundDue};
 ghost use Rattle.journal_steps.specs.declared.turn.CheckTurn.TheVariants.{Idle as IdleCheck};
-ghost use Rattle.journal_steps.specs.Journal.{Agrees, CheckTurnDid, CheckTurnRefused, Does, FitsQuarter, HasRoomFor, IsDuringCheckTurn, IsDuringTurn, LeavesFewerRounds, NewestRefused, RegistersRead, OpensNow, OpensOver, ReadRefused, ReadsNewest, Requests, SealIsDue, TurnDid, TurnRefused};
+ghost use Rattle.journal_steps.specs.Journal.{Agrees, CheckTurnDid, CheckTurnRefused, Does, FitsQuarter, HasRoomFor, IsDuringCheckTurn, IsDuringTurn, LeavesFewerRounds, NewestRefused, RegistersRead, OpensNow, OpensOver, ReadRefused, ReadsNewest, Requests, TurnDid, TurnRefused};
 ghost use Rattle.journal_steps.specs.Legal.{KeepsLegal};
 ghost use Rattle.journal_steps.specs.Values.{together};
 ghost use Rattle.group_commit.specs.AllTurns.{IsReadyToSeal};
@@ -332,18 +332,6 @@ impl<D: Device, R: Record> Journal<D, R> {
         steps::commit_step(&mut self.front, &mut self.engine)
     }
 
-    /// Seals the locked transaction, which has these entries.
-    fn seal(&mut self, batch: Batch) -> Result<Turn, JournalError>
-        requires due { SealIsDue self.old.journal }
-        requires plain { IsPlain self.old.journal.engine }
-        requires batch { batch ≡ batch_of self.old.journal.front.running }
-        ensures ok { IfOk result (λ turn. TurnDid D.state turn self.old self.new) }
-        ensures err { IfErr result (λ e. TurnRefused D.state self.old self.new e) }
-        ensures device { self.new.device ≡ self.old.device }
-    {
-        steps::seal_batch(&mut self.front, &mut self.engine, batch)
-    }
-
     /// Takes the next checkpoint step: at most one device call, and none if it answers `Idle`. A round writes committed copies home,
     /// then frees the log blocks of the transactions committed when it began.
     ///
@@ -453,7 +441,7 @@ impl<D: Device, R: Record> Journal<D, R> {
     {
         self.engine.recall_invariant();
         self.front.lock();
-        self.seal(batch)?;
+        steps::seal_batch(&mut self.front, &mut self.engine, batch)?;
         Ok(())
     }
 

@@ -9,7 +9,6 @@
 //! close seals a transaction.
 #![tactic(auto)]
 
-mod ahead;
 mod all_turns;
 mod close;
 mod direct;

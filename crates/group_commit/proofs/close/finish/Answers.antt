@@ -2,7 +2,8 @@ use Rattle.std.proofs.Common.{refl, sym, subst, ◌∙◌}
 use Rattle.std.proofs.lemmas.Bool.{true≢false}
 use Rattle.std.proofs.lemmas.Result.{err_from_is_err_and}
 use Rattle.group_commit.specs.Close.{CloseRefused, HasSealed}
-use Rattle.group_commit.proofs.Finishing.{last-refused, none-sealed, sealed-refused, way-on, wrong-refused}
+use Rattle.group_commit.proofs.Committing.{rounds-go-on, rounds-refused}
+use Rattle.group_commit.proofs.Finishing.{last-refused, none-sealed, sealed-refused, ways, wrong-refused}
 use Rattle.group_commit.proofs.Leading.{comes-nowhere}
 use Rattle.journal_steps.specs.Values.{JournalValue}
 use Rattle.group_commit.specs.Calls.{CallsForTurns}
@@ -38,7 +39,8 @@ returns-clause-err g c =
           subst (HasSealed g.D.Device.state old) (sym w.journal-is)
           (none-sealed g.D.Device.state _ _ w.in_ok-finish_commit.ensures.ok (λ some. true≢false (sym (c.has_joined.ensures.1 some) ∙ w.if-has_joined.false)))
     ] in
-    sealed-refused g.D.Device.state c.release_all.result _ _ _ running has c.release_all.ensures.err
+    sealed-refused g.D.Device.state c.release_all.result _ _ _ running has
+    (rounds-refused g.D.Device.state c.release_all.result _ _ has.running c.release_all.ensures.err)
 
 pub returns-then-is_aborted-clause-path : goal.returns-then-is_aborted-clause-path
 returns-then-is_aborted-clause-path g c = comes-nowhere _ _
@@ -56,7 +58,32 @@ returns-clause-path g c =
           subst (HasSealed g.D.Device.state old) (sym w.journal-is)
           (none-sealed g.D.Device.state _ _ w.in_ok-finish_commit.ensures.ok (λ some. true≢false (sym (c.has_joined.ensures.1 some) ∙ w.if-has_joined.false)))
     ] in
-    way-on g.D.Device.state c.release_all.result _ _ _ has.path c.release_all.ensures.ok c.release_all.ensures.err
+    ways g.D.Device.state _ _ _ has.path
+    (rounds-go-on g.D.Device.state c.release_all.result _ _ has.running c.release_all.ensures.ok c.release_all.ensures.err).path
+
+pub returns-clause-measures : goal.returns-clause-measures
+returns-clause-measures g c =
+    let old = c.args.journal.now in
+    let has : HasSealed g.D.Device.state old c.if-has_joined.journal =
+    elim c.if-has_joined.branch [
+      | then-has_joined+in_ok-seal_last w ↦ subst (HasSealed g.D.Device.state old) (sym w.journal-is) w.in_ok-seal_last.ensures.ok
+      | else-has_joined+in_ok-finish_commit w ↦
+          subst (HasSealed g.D.Device.state old) (sym w.journal-is)
+          (none-sealed g.D.Device.state _ _ w.in_ok-finish_commit.ensures.ok (λ some. true≢false (sym (c.has_joined.ensures.1 some) ∙ w.if-has_joined.false)))
+    ] in
+    (rounds-go-on g.D.Device.state c.release_all.result _ _ has.running c.release_all.ensures.ok c.release_all.ensures.err).measures ∙ has.measures
+
+pub returns-clause-shape : goal.returns-clause-shape
+returns-clause-shape g c =
+    let old = c.args.journal.now in
+    let has : HasSealed g.D.Device.state old c.if-has_joined.journal =
+    elim c.if-has_joined.branch [
+      | then-has_joined+in_ok-seal_last w ↦ subst (HasSealed g.D.Device.state old) (sym w.journal-is) w.in_ok-seal_last.ensures.ok
+      | else-has_joined+in_ok-finish_commit w ↦
+          subst (HasSealed g.D.Device.state old) (sym w.journal-is)
+          (none-sealed g.D.Device.state _ _ w.in_ok-finish_commit.ensures.ok (λ some. true≢false (sym (c.has_joined.ensures.1 some) ∙ w.if-has_joined.false)))
+    ] in
+    (rounds-go-on g.D.Device.state c.release_all.result _ _ has.running c.release_all.ensures.ok c.release_all.ensures.err).shape ∙ has.shape
 
 pub returns-then-is_aborted-clause-calls : goal.returns-then-is_aborted-clause-calls
 returns-then-is_aborted-clause-calls g c = same-calls g.D.Device.state _ _ refl

@@ -1,4 +1,5 @@
 use Rattle.std.proofs.lemmas.Result.{err_from_is_err_and}
+use Rattle.group_commit.proofs.Committing.{rounds-refused}
 use Rattle.group_commit.proofs.Finishing.{room-made, went-on, wrong-on}
 use Rattle.std.proofs.Common.{sym, ◌∙◌}
 use Rattle.std.proofs.lemmas.Bool.{true≢false}
@@ -21,7 +22,8 @@ pub returns-clause-ok : goal.returns-clause-ok
 returns-clause-ok g c = went-on g.D.Device.state c.release_all.result _ _ _ c.in_ok-finish_commit.ensures.ok c.release_all.ensures.ok
 
 pub returns-clause-err : goal.returns-clause-err
-returns-clause-err g c = wrong-on g.D.Device.state c.release_all.result _ _ _ c.in_ok-finish_commit.ensures.ok c.release_all.ensures.err
+returns-clause-err g c = wrong-on g.D.Device.state c.release_all.result _ _ _ c.in_ok-finish_commit.ensures.ok
+    (rounds-refused g.D.Device.state c.release_all.result _ _ c.in_ok-finish_commit.ensures.ok.running c.release_all.ensures.err)
 
 -- if there is room, there is no round
 pub returns-then-has_room-clause-rounds : goal.returns-then-has_room-clause-rounds
