@@ -11,8 +11,8 @@ use jbench_words::fault::{self, Fault};
 use jbench_words::watch::{Watch, WatchStep};
 use jbench_words::words::BenchWords;
 use journal_model::{Area, JournalError};
-use shared_journal::{Journal, JournalName, Seat, UnnamedJournal, create};
-use std::alloc::{AllocError, Global};
+use shared_journal::{Journal, JournalName, Seat, UnnamedJournal};
+use std::alloc::Global;
 use std::collections::VecDeque;
 use std::io::Write;
 use std::marker::Brand;
@@ -81,7 +81,7 @@ fn do_and_say<
     ensures { IfOk result (λ device. D.honest device → IsLeftClosed (D.state device)) }
 {
     let plans = plans(alloc, words.copies, device.blocks(Area::Home), clients)?;
-    let unnamed = create_on(alloc, Counted::new(device))?;
+    let unnamed = UnnamedJournal::open(alloc, Counted::new(device))?;
     let (done, commits, device) = do_all::<Brand, _, _, _, _>(
         rt, clock, alloc, words, plans, unnamed, watch,
     )?;
@@ -99,19 +99,6 @@ fn plans(alloc: Global, copies: u64, home_blocks: u64, clients: u64) -> Result<V
         plans.push(Plan::new(copies, home_blocks, SEED.saturating_add(number))?)?;
     }
     Ok(plans)
-}
-
-fn create_on<D: Device + Drop>(
-    alloc: Global,
-    device: D,
-) -> Result<UnnamedJournal<D>, JournalError> {
-    match recovery::open(alloc, device) {
-        Ok(opened) => match create(alloc, opened) {
-            Ok(unnamed) => Ok(unnamed),
-            Err((_, e)) => Err(e),
-        },
-        Err((_, e)) => Err(e),
-    }
 }
 
 /// Names the journal, lets the clients work, and closes it. The caller picks the name.
@@ -166,26 +153,6 @@ fn work<
     let done = run_all(rt, alloc, &shared, other, plans, watch)?;
     let after = journal.seen(&mut seat);
     Ok((done, u64::from(after.0.saturating_sub(before.0))))
-}
-
-/// Splits a caller's seat into as many as wanted, of nearly equal allotments; fewer if no more can be split off.
-fn seats<J: JournalName, D: Device>(
-    alloc: Global,
-    journal: &Journal<J, D>,
-    seat: Seat<J>,
-    wanted: usize,
-) -> Result<VecDeque<Seat<J>>, AllocError> {
-    let mut seats = VecDeque::new(alloc);
-    seats.push_back(seat)?;
-    for _ in 1..wanted {
-        if let Some(mut seat) = seats.pop_front() {
-            if let Some(other) = journal.split_seat(&mut seat) {
-                seats.push_back(other)?;
-            }
-            seats.push_back(seat)?;
-        }
-    }
-    Ok(seats)
 }
 
 fn run_all<
@@ -246,7 +213,7 @@ fn clients<'s, J: JournalName, D: Device, C: Clock>(
     seat: Seat<J>,
     plans: Vec<Plan>,
 ) -> Result<VecDeque<Client<'s, J, D, C>>, JournalError> {
-    let seats = seats(alloc, shared.journal, seat, plans.len())?;
+    let seats = shared.journal.split_seats(alloc, seat, plans.len())?;
     let mut clients = VecDeque::new(alloc);
     for (seat, plan) in seats.into_iter().zip(plans) {
         let client = Client::new(alloc, shared, seat, plan);

@@ -17,7 +17,7 @@ use block_device::MemDevice;
 use journal_model::{JournalError, Sealed};
 use journal_script::{ClientScript, NamedBlocks};
 use script_run::{Record, empty_disk};
-use shared_journal::{JournalName, Parts, Tally, UnnamedJournal, create};
+use shared_journal::{JournalName, Parts, Tally, UnnamedJournal};
 use std::alloc::{AllocError, Global};
 use std::collections::BTreeSet;
 use std::marker::Brand;
@@ -58,7 +58,7 @@ pub fn run<W: Threads + Wait + Sync>(
     let disk = empty_disk(alloc, &script.measures)?;
     let plans = plans_of(alloc, &script.clients, script.measures.block_size)?;
     let named = named_blocks(alloc, script)?;
-    let unnamed = unnamed_on(alloc, disk)?;
+    let unnamed = UnnamedJournal::open(alloc, disk)?;
     run_on::<Brand, W>(rt, alloc, unnamed, &plans, &named)
 }
 
@@ -72,20 +72,6 @@ fn named_blocks(alloc: Global, script: &ClientScript) -> Result<NamedBlocks, All
         blocks,
         directs: BTreeSet::new(alloc),
     })
-}
-
-/// An unnamed journal on the log of a disk.
-fn unnamed_on(
-    alloc: Global,
-    disk: MemDevice,
-) -> Result<UnnamedJournal<MemDevice, Vec<Sealed>>, JournalError> {
-    match recovery::open(alloc, disk) {
-        Ok(opened) => match create(alloc, opened) {
-            Ok(unnamed) => Ok(unnamed),
-            Err((_, e)) => Err(e),
-        },
-        Err((_, e)) => Err(e),
-    }
 }
 
 /// Runs clients over an unnamed journal, and judges the result by the blocks that they name.

@@ -3,10 +3,10 @@
 use crate::given::Given;
 use crate::spelling::spell;
 use block_device::{Device, MemDevice};
-use journal_model::{Area, JournalError};
+use journal_model::Area;
 use log_rows::RowError;
 use nbd_server::{Done, Export, Output, serve};
-use shared_journal::{UnnamedJournal, create};
+use shared_journal::{UnnamedJournal, Unrecorded};
 use std::alloc::Global;
 use std::fmt::Write;
 use std::io::ErrorKind;
@@ -34,20 +34,6 @@ pub fn new_log(alloc: Global) -> Result<MemDevice, RowError> {
     }
 }
 
-/// An unnamed journal on a device's log.
-fn unnamed_on<D: Device + Drop>(
-    alloc: Global,
-    device: D,
-) -> Result<UnnamedJournal<D>, JournalError> {
-    match recovery::open(alloc, device) {
-        Ok(opened) => match create(alloc, opened) {
-            Ok(unnamed) => Ok(unnamed),
-            Err((_, e)) => Err(e),
-        },
-        Err((_, e)) => Err(e),
-    }
-}
-
 /// A connection's end, its answers, and its device.
 #[derive(Drop)]
 pub struct Left<D: Drop> {
@@ -64,7 +50,7 @@ pub fn serve_on<D: Device + Send + Drop, T: Threads + Wait + Sync>(
     given: &Given<'_>,
     device: D,
 ) -> Result<Left<D>, RowError> {
-    let Ok(unnamed) = unnamed_on(alloc, device) else {
+    let Ok(unnamed) = UnnamedJournal::<D, Unrecorded>::open(alloc, device) else {
         return Err(RowError::Unread);
     };
     let out = Output::new(Vec::new(alloc));

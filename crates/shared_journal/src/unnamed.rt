@@ -1,4 +1,4 @@
-//! Creates a journal on an opened log, and then gives it its name.
+//! Creates a journal on a log, and then gives it its name.
 ghost use Rattle.std.specs.Prelude.{◌≡◌, ◌≤◌, IfErr, IfOk};
 ghost use Rattle.journal_model.specs.declared.refusal.JournalError.TheVariants.{Memory};
 ghost use Rattle.log_model.specs.Opening.{layout_of, ring_of};
@@ -10,6 +10,7 @@ ghost use Rattle.group_commit.specs.Begun.{world_of_new};
 ghost use Rattle.recovery.specs.Values.{IsNextNamed};
 ghost use Rattle.handle.specs.Rule.{greatest_allotment, greatest_capacity};
 ghost use Rattle.handle.specs.Values.{fresh_seat};
+ghost use Rattle.shared_journal.specs.Unnamed.{IsCreatedOn, NotCreatedOn};
 
 use crate::journal::Journal;
 use block_device::Device;
@@ -21,7 +22,7 @@ use locked_journal::{Counters, Locked, SidesOf, UnnamedKnowing};
 use log_format::Super;
 use log_ring::Layout;
 use parts::UnnamedWhole;
-use recovery::Opened;
+use recovery::{Opened, open};
 use std::alloc::Global;
 use std::marker::Model;
 
@@ -80,6 +81,27 @@ pub fn create<D: Device, R: Record>(
         board,
         knowing,
     })
+}
+
+impl<D: Device + Drop, R: Record> UnnamedJournal<D, R> {
+    /// Opens the log of a device, and creates an unnamed journal on it. To keep the device after a refusal, or to see the opening's report,
+    /// call `open` and `create`.
+    ///
+    /// # Errors
+    ///
+    /// Those of `open` and `create`. The device is dropped.
+    pub fn open(alloc: Global, device: D) -> Result<Self, JournalError>
+        ensures created { IfOk result (λ unnamed. IsCreatedOn D.state D.honest device unnamed.journal) }
+        ensures err { IfErr result (NotCreatedOn D.state D.honest device) }
+    {
+        match open(alloc, device) {
+            Ok(opened) => match create(alloc, opened) {
+                Ok(unnamed) => Ok(unnamed),
+                Err((_, e)) => Err(e),
+            },
+            Err((_, e)) => Err(e),
+        }
+    }
 }
 
 impl<D: Device, R: Record> UnnamedJournal<D, R> {
