@@ -1,4 +1,4 @@
-use Rattle.std.proofs.Common.{arith, ap, ◌∙◌, ◌≡◌, ◌+◌, ◌++◌, ◌∷◌, [], length, length-append, vec_items}
+use Rattle.std.proofs.Common.{arith, ap, refl, ◌∙◌, ◌≡◌, ◌+◌, ◌++◌, ◌∷◌, [], length, length-append, vec_items}
 use Rattle.std.proofs.lemmas.List.{append_assoc}
 use Rattle.std.specs.Vec.Iter.{into_iter_items}
 use Rattle.volume_service.specs.declared.tasks.TaskClient.{TaskClient}
@@ -9,7 +9,7 @@ pub loop-task-preserved : goal.loop-task-preserved
 loop-task-preserved g c =
     let at = c.loop-task in
     let x = c.in-Some.task in
-    let made = c.as_client.result in
+    let made : TaskClient g.row.T.Denot = record { task = x } in
     let steps : into_iter_items at.task-iterator ≡ x ∷ into_iter_items c.next.new.self = c.in-Some.ensures.steps.0 in
     let is : c.push.new.self.items ≡ at.clients.items ++ made ∷ [] = c.in_ok-push.ensures.items in
     let now : length c.push.new.self.items ≡ length (at.clients.items ++ made ∷ []) = ap length is in
@@ -21,6 +21,6 @@ loop-task-preserved g c =
       whole,
       λ k a t less.
           one-more (λ (client : TaskClient g.row.T.Denot). client.task) at.clients.items c.push.new.self.items c.args.tasks.items at.yielded
-          (into_iter_items c.next.new.self) made x is c.as_client.ensures long whole (λ j b s low. at.invariant.2 j b s (omega (arith, low, at.clients.ok.0))) k a t
+          (into_iter_items c.next.new.self) made x is refl long whole (λ j b s low. at.invariant.2 j b s (omega (arith, low, at.clients.ok.0))) k a t
           (omega (arith, less, c.push.new.self.ok.0, now, sum)),
     )
