@@ -11,5 +11,5 @@ mod worker;
 
 pub use gate::{Gate, OpenGate, Point};
 pub use held::HeldDevice;
-pub use shared::{Shared, Signals, Wake};
+pub use shared::{Request, Shared, Signals, Wake};
 pub use worker::{Checkpointer, Committer, Round, is_half_full};

@@ -1,7 +1,7 @@
 //! What all threads share with the journal: who waits, and who is woken for what.
 use block_device::Device;
-use journal_model::Tid;
-use shared_journal::{EventCounter, Journal, JournalName, Record, Turn};
+use journal_model::{JournalError, Tid};
+use shared_journal::{CheckTurn, EventCounter, Journal, JournalName, Record, Turn};
 use std::sync::Wait;
 use std::sync::atomic::{AtomicU64, Ordering};
 
@@ -39,6 +39,14 @@ impl<J: JournalName, D: Device, R: Record, G> Shared<'_, J, D, R, G> {
         }
     }
 
+    /// Takes a checkpoint turn. It returns whether the round goes on.
+    pub(crate) fn step_round<W: Wait>(&self, rt: &W) -> Result<bool, JournalError> {
+        match self.journal.checkpoint_turn(rt)? {
+            CheckTurn::Step => Ok(true),
+            CheckTurn::Idle | CheckTurn::Released(_) => Ok(false),
+        }
+    }
+
     /// Whether about half of the ring may be used: a transaction takes at most a quarter of it, and a few blocks more than the capacity.
     pub fn wants_round(&self) -> bool {
         self.signals.steps.load(Ordering::SeqCst) / 2 >= self.journal.capacity()
@@ -67,12 +75,12 @@ pub struct Signals {
     pub changes: EventCounter,
     /// Counts checkpoint rounds that are over.
     pub room: EventCounter,
-    /// 1 while a requested round has not begun.
-    round: AtomicU64,
+    /// A round, until it begins.
+    pub(crate) round: Request,
     /// Device calls of commits since a round was last requested for them.
     steps: AtomicU64,
-    /// 1 while a commit is requested because half of the credits are used, and the worker has not begun to look.
-    half_full: AtomicU64,
+    /// A commit because half of the credits are used, until the worker begins to look.
+    pub half_full: Request,
     /// How many wait for a commit, for credits, or for a transaction that takes handles.
     waiting: AtomicU64,
 }
@@ -83,9 +91,9 @@ impl Signals {
         Signals {
             changes: EventCounter::new(),
             room: EventCounter::new(),
-            round: AtomicU64::new(0),
+            round: Request::new(),
             steps: AtomicU64::new(0),
-            half_full: AtomicU64::new(0),
+            half_full: Request::new(),
             waiting: AtomicU64::new(0),
         }
     }
@@ -106,19 +114,6 @@ impl Signals {
         self.waiting.load(Ordering::SeqCst) != 0
     }
 
-    /// Requests a commit because half of the credits are used. It returns whether to wake the worker: not if an earlier request is still
-    /// open.
-    pub fn ask_for_half(&self) -> bool {
-        self.half_full
-            .compare_exchange(0, 1, Ordering::SeqCst, Ordering::SeqCst)
-            .is_ok()
-    }
-
-    /// The worker begins to look, or was not woken: the request is no longer open.
-    pub fn begin_half(&self) {
-        self.half_full.store(0, Ordering::SeqCst);
-    }
-
     /// Counts one more device call of a commit.
     pub(crate) fn count_step(&self) {
         self.steps.fetch_add(1, Ordering::SeqCst);
@@ -128,16 +123,32 @@ impl Signals {
     pub(crate) fn forget_steps(&self) {
         self.steps.store(0, Ordering::SeqCst);
     }
+}
 
-    /// Requests a round. It returns whether to send the request: not if an earlier one has not begun.
-    pub(crate) fn ask_for_round(&self) -> bool {
-        self.round
+/// A request to a worker, of which one at most is open.
+#[derive(Drop)]
+pub struct Request {
+    /// 1 while it is open.
+    is_open: AtomicU64,
+}
+
+impl Request {
+    /// None is open.
+    fn new() -> Request {
+        Request {
+            is_open: AtomicU64::new(0),
+        }
+    }
+
+    /// Opens the request. It returns whether to send it to the worker: not if an earlier one is still open.
+    pub fn open(&self) -> bool {
+        self.is_open
             .compare_exchange(0, 1, Ordering::SeqCst, Ordering::SeqCst)
             .is_ok()
     }
 
-    /// The requested round begins.
-    pub(crate) fn begin_round(&self) {
-        self.round.store(0, Ordering::SeqCst);
+    /// Closes the request: the worker begins to answer it, or was not woken.
+    pub fn close(&self) {
+        self.is_open.store(0, Ordering::SeqCst);
     }
 }
