@@ -21,8 +21,8 @@ use jbench_files::{
 };
 use jbench_help::{Shell, write_completions, write_manual};
 use jbench_logs::overwriting::say_overwritten;
-use jbench_logs::{logs, recovering, show};
-use jbench_views::{cat, dump};
+use jbench_logs::{logs, recovering};
+use jbench_views::{cat, dump, show};
 use jbench_words::fault::{Status, refuse_file};
 use jbench_words::watch::Watch;
 use jbench_words::words::{
@@ -514,7 +514,7 @@ fn show_file<C: Contents, W: Write + Drop, E: Write + Drop>(
     let mut err = err;
     match open_log(rt.alloc(), contents, rt, words.log) {
         Ok(mut device) => {
-            let status = show::show(rt.alloc(), words, &mut device, out, &mut err)?;
+            let status = show(rt.alloc(), words, &mut device, out, &mut err)?;
             say_failure(&device, lone(words.log), &mut err)?;
             Ok(status)
         }

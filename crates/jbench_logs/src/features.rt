@@ -3,21 +3,21 @@ use std::io;
 use std::io::Write;
 
 /// A feature: its bit, its name, and how an owner removes it.
-pub(crate) struct Feature {
+pub struct Feature {
     bit: u32,
     name: &'static str,
     way_out: &'static str,
 }
 
 /// The required incompatible feature.
-pub(crate) const REVOKE: u32 = 0x1;
+pub const REVOKE: u32 = 0x1;
 
 /// The other incompatible feature that is accepted: 64-bit block numbers.
-pub(crate) const WIDE_NUMBERS: u32 = 0x2;
+pub const WIDE_NUMBERS: u32 = 0x2;
 
 /// Compatible features.
 /// Source: journal.rst, "Super Block".
-pub(crate) const COMPATIBLE: &[Feature] = &[Feature {
+pub const COMPATIBLE: &[Feature] = &[Feature {
     bit: 0x1,
     name: "checksum",
     way_out: "mount its file system once without journal_checksum",
@@ -25,7 +25,7 @@ pub(crate) const COMPATIBLE: &[Feature] = &[Feature {
 
 /// Incompatible features.
 /// Source: journal.rst, "Super Block".
-pub(crate) const INCOMPATIBLE: &[Feature] = &[
+pub const INCOMPATIBLE: &[Feature] = &[
     Feature {
         bit: REVOKE,
         name: "revoke",
@@ -59,10 +59,14 @@ pub(crate) const INCOMPATIBLE: &[Feature] = &[
 ];
 
 /// Read-only compatible features have no names.
-pub(crate) const READ_ONLY_COMPATIBLE: &[Feature] = &[];
+pub const READ_ONLY_COMPATIBLE: &[Feature] = &[];
 
 /// Prints a field of features: its number and the name of each set bit.
-pub(crate) fn write_features(
+///
+/// # Errors
+///
+/// The line could not be written.
+pub fn write_features(
     out: &mut impl Write,
     name: &str,
     bits: u32,
@@ -85,7 +89,11 @@ pub(crate) fn write_features(
 }
 
 /// Prints the names of the set features, as a JSON list.
-pub(crate) fn write_names(out: &mut impl Write, bits: u32, features: &[Feature]) -> io::Result<()> {
+///
+/// # Errors
+///
+/// The list could not be written.
+pub fn write_names(out: &mut impl Write, bits: u32, features: &[Feature]) -> io::Result<()> {
     let mut comma = "";
     write!(out, "[")?;
     for feature in features {

@@ -238,7 +238,7 @@ pub fn refuse<D: Device>(
 /// # Errors
 ///
 /// The fault is one of output, or the lines could not be written.
-pub(crate) fn refuse_fault<D: Device>(
+pub fn refuse_fault<D: Device>(
     alloc: Global,
     path: &str,
     device: &mut D,

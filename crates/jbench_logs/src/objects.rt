@@ -49,7 +49,11 @@ pub(crate) fn begin_found<W: Write>(
 }
 
 /// Writes a refusal: its number, its name, and the place of a block if it has one.
-pub(crate) fn write_refusal<W: Write>(out: &mut W, e: JournalError) -> io::Result<()> {
+///
+/// # Errors
+///
+/// The output could not be written.
+pub fn write_refusal<W: Write>(out: &mut W, e: JournalError) -> io::Result<()> {
     let number = e.number();
     match e {
         JournalError::Ahead(place) => write!(
@@ -85,7 +89,11 @@ pub fn write_members<W: Write>(out: &mut W, words: &str) -> io::Result<()> {
 }
 
 /// Writes the lines of a text as a list.
-pub(crate) fn write_lines<W: Write>(out: &mut W, text: &[u8]) -> io::Result<()> {
+///
+/// # Errors
+///
+/// The output could not be written.
+pub fn write_lines<W: Write>(out: &mut W, text: &[u8]) -> io::Result<()> {
     let mut is_later = false;
     write!(out, "[")?;
     for line in from_utf8(text).unwrap_or("").lines() {

@@ -2,7 +2,7 @@
 ghost use Rattle.std.specs.Prelude.{◌≡◌, length};
 ghost use Rattle.block_device.specs.Call.{OnlyReads};
 
-use crate::ways_out::say_length;
+use crate::ways_out::{SUPER_BYTES, say_length};
 use block_device::{Device, read_block};
 use journal_model::{Area, JournalError};
 use log_format::Super;
@@ -11,9 +11,6 @@ use log_views::read_log;
 use std::alloc::Global;
 use std::io;
 use std::io::Write;
-
-/// Bytes of a superblock.
-pub(crate) const SUPER_BYTES: usize = 1024;
 
 /// After a refusal's line, says if the home area lacks a block that the log names, or the log's file is too short. If that cannot be found
 /// out, it says nothing.

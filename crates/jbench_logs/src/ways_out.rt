@@ -6,12 +6,15 @@ use crate::features::{
     COMPATIBLE, INCOMPATIBLE, READ_ONLY_COMPATIBLE, REVOKE, WIDE_NUMBERS, write_ways_out,
 };
 use block_device::{Device, read_block};
-use journal_model::layout::{GREATEST_LENGTH, GREATEST_NUMBER, LEAST_LENGTH, MAGIC};
+use journal_model::layout::{GREATEST_LENGTH, LEAST_LENGTH, MAGIC};
 use journal_model::{Area, JournalError};
 use log_format::Super;
 use std::alloc::Global;
 use std::io;
 use std::io::Write;
+
+/// Bytes of a superblock.
+pub const SUPER_BYTES: usize = 1024;
 
 /// The place of the two-byte magic of ext2, ext3 and ext4 volumes.
 const VOLUME_PLACE: usize = 0x438;
@@ -20,7 +23,7 @@ const VOLUME_MAGIC: [u8; 2] = [0x53, 0xef];
 
 /// The content of the superblock's place.
 #[derive(Clone, Copy)]
-pub(crate) enum Standing {
+pub enum Standing {
     /// A block that begins with a log's magic.
     Superblock,
     /// The beginning of a volume with a file system.
@@ -36,7 +39,7 @@ pub(crate) enum Standing {
 /// # Errors
 ///
 /// `Device`, `Memory`: block 1 could not be read.
-pub(crate) fn standing_of<D: Device>(
+pub fn standing_of<D: Device>(
     alloc: Global,
     device: &mut D,
     bytes: &[u8],
@@ -83,37 +86,13 @@ fn has_volume_magic(bytes: &[u8], place: usize) -> bool {
     }
 }
 
-/// Why an opening refuses a log with these superblock bytes and this many blocks, as far as the superblock shows it.
-pub(crate) fn refusal_of(bytes: &[u8], blocks: u64) -> Option<JournalError>
-    requires { 1024 ≤ length bytes.now }
-{
-    match Super::read(bytes, blocks) {
-        Ok(fields) if fields.s_sequence < GREATEST_NUMBER => None,
-        Ok(_) => Some(JournalError::SequenceEnd),
-        Err(e) => Some(e),
-    }
-}
-
-/// Says whether an opening accepts a superblock that this refusal, if any, is for.
-pub(crate) fn print(refusal: Option<JournalError>, out: &mut impl Write) -> io::Result<()> {
-    match refusal {
-        None => writeln!(out, "an opening takes this superblock"),
-        Some(JournalError::SequenceEnd) => writeln!(
-            out,
-            "an opening takes this superblock, and then refuses the log: 10 SequenceEnd"
-        ),
-        Some(e) => writeln!(
-            out,
-            "an opening refuses this superblock: {} {}",
-            e.number(),
-            e.name()
-        ),
-    }
-}
-
 /// Says what an owner can do about this refusal of these superblock bytes. `standing` is in the superblock's place; the log has `blocks`
 /// blocks.
-pub(crate) fn print_ways_out(
+///
+/// # Errors
+///
+/// The lines could not be written.
+pub fn print_ways_out(
     bytes: &[u8],
     blocks: u64,
     standing: Standing,

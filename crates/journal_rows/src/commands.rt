@@ -3,7 +3,7 @@ use crate::kinds::both;
 use block_device::MemDevice;
 use jbench_commands::{check, run, sweep};
 use jbench_help::{write_completions, write_manual};
-use jbench_logs::{logs, recovering, show};
+use jbench_logs::{logs, recovering};
 use jbench_words::fault::Status;
 use jbench_words::watch::Unwatched;
 use jbench_words::words::{
@@ -276,7 +276,7 @@ fn show_device(
 ) -> Result<String, RowError> {
     let mut out = Vec::new(alloc);
     let mut err = Vec::new(alloc);
-    match show::show(alloc, words, &mut device, &mut out, &mut err) {
+    match jbench_views::show(alloc, words, &mut device, &mut out, &mut err) {
         Ok(status) => text_of(alloc, &out, &err, status),
         Err(_) => Err(RowError::Memory),
     }

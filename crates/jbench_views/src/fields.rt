@@ -1,10 +1,10 @@
 //! The superblock fields in the order of the bytes, each with the test that it fails.
 ghost use Rattle.std.specs.Prelude.{◌+◌, ◌≤◌, length};
 
-use crate::features::{
+use byteorder::{BigEndian, ByteOrder};
+use jbench_logs::features::{
     COMPATIBLE, Feature, INCOMPATIBLE, READ_ONLY_COMPATIBLE, REVOKE, WIDE_NUMBERS,
 };
-use byteorder::{BigEndian, ByteOrder};
 use journal_model::JournalError;
 use journal_model::layout::{GREATEST_LENGTH, LEAST_LENGTH, MAGIC, SUPER_TYPE};
 use journal_script::is_block_size;

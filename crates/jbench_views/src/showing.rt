@@ -4,16 +4,17 @@ ghost use Rattle.std.specs.Prelude.{◌≡◌, ◌≢◌, ◌≤◌, length, IfO
 ghost use Rattle.block_device.specs.State.{Stays};
 ghost use Rattle.jbench_words.specs.declared.fault.Status.TheVariants.{Fine, Refused};
 
-use crate::features::{write_features, write_names};
 use crate::fields::{Failed, Field, Value, fields_of};
-use crate::logs::refuse_fault;
-use crate::objects::{write_lines, write_refusal};
-use crate::reasons::SUPER_BYTES;
-use crate::ways_out::{Standing, print, print_ways_out, refusal_of, standing_of};
 use block_device::{Device, read_block};
+use jbench_logs::features::{write_features, write_names};
+use jbench_logs::logs::refuse_fault;
+use jbench_logs::objects::{write_lines, write_refusal};
+use jbench_logs::ways_out::{SUPER_BYTES, Standing, print_ways_out, standing_of};
 use jbench_words::fault::{Fault, Status};
 use jbench_words::words::ShowWords;
+use journal_model::layout::GREATEST_NUMBER;
 use journal_model::{Area, Block, JournalError};
+use log_format::Super;
 use log_views::{RingUse, ring_use};
 use std::alloc::Global;
 use std::io::Write;
@@ -118,6 +119,17 @@ impl<'a> Shown<'a> {
     }
 }
 
+/// Why an opening refuses a log with these superblock bytes and this many blocks, as far as the superblock shows it.
+fn refusal_of(bytes: &[u8], blocks: u64) -> Option<JournalError>
+    requires { 1024 ≤ length bytes.now }
+{
+    match Super::read(bytes, blocks) {
+        Ok(fields) if fields.s_sequence < GREATEST_NUMBER => None,
+        Ok(_) => Some(JournalError::SequenceEnd),
+        Err(e) => Some(e),
+    }
+}
+
 /// The use of a log's ring, if its superblock is accepted.
 fn ring_of<D: Device>(alloc: Global, device: &mut D) -> Result<Option<RingUse>, Fault>
     ensures { Stays (D.state device.old) (D.state device.new) }
@@ -199,8 +211,25 @@ fn show_lines(shown: &Shown<'_>, out: &mut impl Write) -> io::Result<()> {
     for field in &shown.fields {
         show_field(field, out)?;
     }
-    print(shown.refusal, out)?;
+    say_refusal(shown.refusal, out)?;
     out.write_all(&shown.ways_out)
+}
+
+/// Says whether an opening accepts a superblock that this refusal, if any, is for.
+fn say_refusal(refusal: Option<JournalError>, out: &mut impl Write) -> io::Result<()> {
+    match refusal {
+        None => writeln!(out, "an opening takes this superblock"),
+        Some(JournalError::SequenceEnd) => writeln!(
+            out,
+            "an opening takes this superblock, and then refuses the log: 10 SequenceEnd"
+        ),
+        Some(e) => writeln!(
+            out,
+            "an opening refuses this superblock: {} {}",
+            e.number(),
+            e.name()
+        ),
+    }
 }
 
 /// Prints a field. Below one that fails its test, prints the refusal and what is wanted.
