@@ -1,8 +1,7 @@
 -- How commands end.
-use Rattle.std.proofs.Common.{◌∙◌, ◌≡◌, ◌⊎◌, ⊎_elim, ap, List, Option, inl, inr, subst, sym, ℕ}
+use Rattle.std.proofs.Common.{◌∙◌, ◌≡◌, ap, List, Option, inl, inr, subst, sym, ℕ}
 use Rattle.std.proofs.lemmas.Bool.{false≢true}
-use Rattle.std.specs.Prelude.{◌≢◌, ⊤, Bool, true, false, IfOk, IfSome, IsOk, IsSome, None, Some, Result, Err, Ok}
-use Rattle.jbench_words.specs.declared.fault.Fault.{Fault}
+use Rattle.std.specs.Prelude.{◌≢◌, ⊤, Bool, IfOk, IfSome, IsOk, IsSome, None, Some, Result, Err, Ok}
 use Rattle.jbench_words.specs.declared.fault.Status.{Status}
 use Rattle.jbench_words.specs.declared.fault.Status.TheVariants.{Fine, Refused, VerdictFalse}
 use Rattle.jbench_commands.specs.Runs.{HasTakenEither, IsGoodOf, IsWhole}
@@ -11,22 +10,6 @@ use Rattle.script_sweep.specs.Sweeping.{none_wrong, not_right_of}
 use Rattle.jbench_commands.specs.Sweeps.{HasSwept, IsSweptTo}
 use Rattle.jbench_commands.specs.declared.check.Good.{Good}
 use Rattle.jbench_commands.specs.declared.check.Good.TheVariants.{Operations, Clients}
-
--- a run that ends with 0 has an ok verdict
-pub ends-fine : {E : Type 0} (P : Bool → Type 0) (end : Result Status E) (verdict : Result Bool Fault) →
-    IfOk end (λ status. status ≡ Fine → verdict ≡ Ok true) → IfOk verdict P → IfOk end (λ status. status ≡ Fine → P true)
-ends-fine P (Err e) verdict fine is = tt
-ends-fine P (Ok status) verdict fine is = λ now. subst (λ (r : Result Bool Fault). IfOk r P) (fine now) is
-
--- a run whose verdict cannot be false ends with 0 or 1
-pub ends-refused : {E : Type 0} (end : Result Status E) (verdict : Result Bool Fault) →
-    IfOk end (λ status. status ≢ Fine → (status ≡ Refused) ⊎ (verdict ≡ Ok false)) → IfOk verdict (λ right. right ≡ true)
-    → IfOk end (λ status. status ≢ Fine → status ≡ Refused)
-ends-refused (Err e) verdict other is = tt
-ends-refused (Ok status) verdict other is = λ not.
-    ⊎_elim (λ (refused : status ≡ Refused). refused)
-    (λ (wrong : verdict ≡ Ok false). absurd (false≢true (subst (λ (r : Result Bool Fault). IfOk r (λ right. right ≡ true)) wrong is)))
-    (other not)
 
 -- only a sweep and clients in threads may end with 2
 abbrev IsWrong : Status → Type 0

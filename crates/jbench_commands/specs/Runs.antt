@@ -10,7 +10,6 @@ use Rattle.journal_script.specs.declared.script.Operation.{Operation}
 use Rattle.journal_script.specs.declared.script.Script.{Script}
 use Rattle.jbench_words.specs.declared.words.RunWords.{RunWords}
 use Rattle.jbench_words.specs.declared.words.StopWords.{StopWords}
-use Rattle.jbench_words.specs.declared.words.LogPaths.{LogPaths}
 use Rattle.script_run.specs.Copying.{IsCopiedRun}
 use Rattle.script_run.specs.Left.{IsRunOf}
 use Rattle.script_run.specs.declared.stops.Stop.{Stop}
@@ -82,10 +81,10 @@ pub record IsRunWithImage (script : Script) (stops : Stops) (right : Bool) : Typ
   pub run : IsCopiedRun script stops device right
   pub small : script.measures.home_blocks ≤ 1048576
 
--- a run copies its image if the words name files for it
-abbrev pub runs_told : Option LogPaths → Script → Stops → Bool → Type 0
+-- a run copies its image if one is given, or the words name files for it
+abbrev pub runs_told : {A : Type 0} → Option A → Script → Stops → Bool → Type 0
 runs_told None script stops right = IsRunOf script stops right
-runs_told (Some paths) script stops right = IsRunWithImage script stops right
+runs_told (Some image) script stops right = IsRunWithImage script stops right
 
 -- a script was accepted and run
 pub record HasRun (Runs : Script → Stops → Bool → Type 0) (known : Option (List ℕ)) (words : RunWords) (right : Bool) : Type 0 where

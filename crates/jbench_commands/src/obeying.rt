@@ -93,13 +93,14 @@ fn run_file<W: Write + Drop, E: Write + Drop>(
         Err(e) => return refuse_file(&mut err, words.script, e),
     };
     let Some(image) = words.image else {
-        return run::run(rt.alloc(), words, script.into_text(), out, err);
+        let text = script.into_text();
+        return run::run(rt.alloc(), words, text, None::<ImageFiles>, out, err);
     };
     match open_or_make_pair(rt, image, Some(&script)) {
         Ok(files) => {
             let alloc = rt.alloc();
             let image = ImageFiles { alloc, files };
-            run::run_with_image(alloc, words, script.into_text(), image, out, err)
+            run::run(alloc, words, script.into_text(), Some(image), out, err)
         }
         Err(unopened) => unopened.refuse(&mut err),
     }

@@ -1,9 +1,8 @@
 //! The command `run`: reads a script, and runs it.
-ghost use Rattle.std.specs.Prelude.{◌≡◌, ◌≢◌, ◌≤◌, ◌⊎◌, false, true, IfErr, IfOk, Ok};
+ghost use Rattle.std.specs.Prelude.{◌≡◌, ◌≢◌, true, IfErr, IfOk};
 ghost use Rattle.jbench_words.specs.Images.{IsUnmade};
 ghost use Rattle.jbench_words.specs.declared.fault.Status.TheVariants.{Fine, Refused};
-ghost use Rattle.script_run.specs.Left.{IsRunOf};
-ghost use Rattle.jbench_commands.specs.Runs.{AreStopsTold, HasRun, IsRunWithImage, IsStopTold, IsTaken};
+ghost use Rattle.jbench_commands.specs.Runs.{AreStopsTold, HasRun, IsStopTold, IsTaken, runs_told};
 
 use crate::faults::of_run;
 use crate::object::write_object;
@@ -18,44 +17,30 @@ use std::io;
 use std::io::{BufWriter, ErrorKind, Read, Write};
 
 /// Runs a script, and prints its lines, the crash image's dump and the verdict on its openings; as one JSON object if the words ask for it.
-/// A line on `err` says why it cannot go on.
+/// The crash image is written durably to the device that `image` makes, if it is given, before it is opened. If that device cannot be made,
+/// only a line on `err` is printed. A line on `err` also says why else the run cannot go on.
 ///
 /// # Errors
 ///
 /// The output could not be written.
-pub fn run<R: Read + Drop, W: Write + Drop, E: Write + Drop>(
+pub fn run<R: Read + Drop, M: MakeImage + Drop, W: Write + Drop, E: Write + Drop>(
     alloc: Global,
     words: &RunWords<'_>,
     script: R,
+    image: Option<M>,
     out: W,
     err: E,
 ) -> io::Result<Status>
-    ensures run { IfOk result (λ status. status ≡ Fine → HasRun IsRunOf (R.remaining script) words.now true) }
+    ensures run { IfOk result (λ status. status ≡ Fine → HasRun (runs_told image) (R.remaining script) words.now true) }
     ensures other { IfOk result (λ status. status ≢ Fine → status ≡ Refused) }
 {
-    let verdict = verdict_as_told(alloc, words, script, out);
-    end(words, verdict, err)
-}
-
-/// Runs a script as `run` does, and writes the crash image durably to the device that `image` makes, before the image is opened. If that
-/// device cannot be made, only a line on `err` is printed.
-///
-/// # Errors
-///
-/// The output could not be written.
-pub fn run_with_image<R: Read + Drop, M: MakeImage + Drop, W: Write + Drop, E: Write + Drop>(
-    alloc: Global,
-    words: &RunWords<'_>,
-    script: R,
-    image: M,
-    out: W,
-    err: E,
-) -> io::Result<Status>
-    ensures run { IfOk result (λ status. status ≡ Fine → HasRun IsRunWithImage (R.remaining script) words.now true) }
-    ensures other { IfOk result (λ status. status ≢ Fine → status ≡ Refused) }
-{
-    let verdict = image_verdict_as_told(alloc, words, script, image, out);
-    end(words, verdict, err)
+    let mut err = err;
+    match verdict_of(alloc, words, script, image, out) {
+        Ok(true) => Ok(Status::Fine),
+        Ok(false) => Ok(Status::VerdictFalse),
+        Err(Fault::Output(e)) => Err(e),
+        Err(fault) => fault::refuse(&mut err, path_of(words, &fault), &fault),
+    }
 }
 
 /// Makes the device for an image.
@@ -68,23 +53,6 @@ pub trait MakeImage {
     ///
     /// It could not be made.
     fn make(self, measures: &Measures) -> io::Result<Self::Device>;
-}
-
-/// A run's status; prints why it could not go on.
-fn end<E: Write + Drop>(
-    words: &RunWords<'_>,
-    verdict: Result<bool, Fault>,
-    mut err: E,
-) -> io::Result<Status>
-    ensures fine { IfOk result (λ status. status ≡ Fine → verdict ≡ Ok true) }
-    ensures other { IfOk result (λ status. status ≢ Fine → (status ≡ Refused) ⊎ (verdict ≡ Ok false)) }
-{
-    match verdict {
-        Ok(true) => Ok(Status::Fine),
-        Ok(false) => Ok(Status::VerdictFalse),
-        Err(Fault::Output(e)) => Err(e),
-        Err(fault) => fault::refuse(&mut err, path_of(words, &fault), &fault),
-    }
 }
 
 /// The file of a fault.
@@ -116,23 +84,29 @@ fn stops_of<'a>(words: &'a RunWords<'_>) -> Stops<'a>
     }
 }
 
-/// Makes the image's device, then runs a script and returns the verdict.
+/// Runs a tested script, and returns the verdict. If an image is given, its device is made first.
 ///
 /// # Errors
 ///
 /// `Fault::ImageFile`: the device cannot be made, or home has more than 1,048,576 blocks to copy; nothing was printed. Otherwise those of a
 /// run, and of the copy of its image.
-pub fn run_on<M: MakeImage + Drop, W: Write>(
+pub fn run_tested<M: MakeImage + Drop, W: Write>(
     alloc: Global,
     script: &Script,
     stops: &Stops<'_>,
-    image: M,
+    image: Option<M>,
     out: &mut W,
 ) -> Result<bool, Fault>
     ensures unmade { IfErr result (λ fault. IsUnmade fault → out.new ≡ out.old) }
-    ensures run { IfOk result (IsRunWithImage script.now stops.now) }
+    ensures run { IfOk result (runs_told image script.now stops.now) }
     ensures right { IfOk result (λ right. right ≡ true) }
 {
+    let Some(image) = image else {
+        return match script_run::run(alloc, script, stops, out) {
+            Ok(verdict) => Ok(verdict),
+            Err(fault) => Err(of_run(fault)),
+        };
+    };
     if script.measures.home_blocks > HOMES.1 {
         return Err(too_large());
     }
@@ -155,85 +129,29 @@ fn too_large() -> Fault
     ))
 }
 
-/// Reads a script, runs it with an image, and returns the verdict. If the words ask for it, everything is printed at the end, as one
-/// object.
-fn image_verdict_as_told<R: Read + Drop, M: MakeImage + Drop, W: Write + Drop>(
-    alloc: Global,
-    words: &RunWords<'_>,
-    script: R,
-    image: M,
-    out: W,
-) -> Result<bool, Fault>
-    ensures run { IfOk result (HasRun IsRunWithImage (R.remaining script) words.now) }
-    ensures right { IfOk result (λ right. right ≡ true) }
-{
-    if !words.json {
-        return image_verdict_of(alloc, words, script, image, out);
-    }
-    let mut text = Vec::new(alloc);
-    let verdict = image_verdict_of(alloc, words, script, image, &mut text)?;
-    write_object(alloc, &text, out)?;
-    Ok(verdict)
-}
-
 /// Reads a script, runs it, and returns the verdict. If the words ask for it, everything is printed at the end, as one object.
-fn verdict_as_told<R: Read + Drop, W: Write + Drop>(
+fn verdict_of<R: Read + Drop, M: MakeImage + Drop, W: Write + Drop>(
     alloc: Global,
     words: &RunWords<'_>,
     script: R,
+    image: Option<M>,
     out: W,
 ) -> Result<bool, Fault>
-    ensures run { IfOk result (HasRun IsRunOf (R.remaining script) words.now) }
-    ensures right { IfOk result (λ right. right ≡ true) }
-{
-    if !words.json {
-        return verdict_of(alloc, words, script, out);
-    }
-    let mut text = Vec::new(alloc);
-    let verdict = verdict_of(alloc, words, script, &mut text)?;
-    write_object(alloc, &text, out)?;
-    Ok(verdict)
-}
-
-/// Reads a script, runs it with an image through a buffer, and returns the verdict.
-fn image_verdict_of<R: Read + Drop, M: MakeImage + Drop, W: Write + Drop>(
-    alloc: Global,
-    words: &RunWords<'_>,
-    script: R,
-    image: M,
-    out: W,
-) -> Result<bool, Fault>
-    ensures run { IfOk result (HasRun IsRunWithImage (R.remaining script) words.now) }
+    ensures run { IfOk result (HasRun (runs_told image) (R.remaining script) words.now) }
     ensures right { IfOk result (λ right. right ≡ true) }
 {
     let script = read_script(alloc, script)?;
     let stops = stops_of(words);
+    if words.json {
+        let mut text = Vec::new(alloc);
+        let verdict = run_tested(alloc, &script, &stops, image, &mut text)?;
+        write_object(alloc, &text, out)?;
+        return Ok(verdict);
+    }
     let mut out = BufWriter::new(alloc, out)?;
-    let verdict = run_on(alloc, &script, &stops, image, &mut out)?;
+    let verdict = run_tested(alloc, &script, &stops, image, &mut out)?;
     out.flush()?;
     Ok(verdict)
-}
-
-/// Reads a script, runs it through a buffer, and returns the verdict.
-fn verdict_of<R: Read + Drop, W: Write + Drop>(
-    alloc: Global,
-    words: &RunWords<'_>,
-    script: R,
-    out: W,
-) -> Result<bool, Fault>
-    ensures run { IfOk result (HasRun IsRunOf (R.remaining script) words.now) }
-    ensures right { IfOk result (λ right. right ≡ true) }
-{
-    let script = read_script(alloc, script)?;
-    let stops = stops_of(words);
-    let mut out = BufWriter::new(alloc, out)?;
-    match script_run::run(alloc, &script, &stops, &mut out) {
-        Ok(verdict) => {
-            out.flush()?;
-            Ok(verdict)
-        }
-        Err(fault) => Err(of_run(fault)),
-    }
 }
 
 /// Reads a script to its end, and tests it.

@@ -1,6 +1,7 @@
 //! Rows of the commands of `jbench`, over readers, writers and devices in memory.
 use crate::kinds::both;
 use block_device::MemDevice;
+use jbench_commands::image::ImageFiles;
 use jbench_commands::{check, run, sweep};
 use jbench_help::{write_completions, write_manual};
 use jbench_logs::{logs, recovering};
@@ -95,7 +96,8 @@ fn status_of(right: bool) -> Status {
 fn run_script(alloc: Global, words: &RunWords<'_>, script: &str) -> Result<String, RowError> {
     let mut out = Vec::new(alloc);
     let mut err = Vec::new(alloc);
-    match run::run(alloc, words, script.as_bytes(), &mut out, &mut err) {
+    let (script, image) = (script.as_bytes(), None::<ImageFiles>);
+    match run::run(alloc, words, script, image, &mut out, &mut err) {
         Ok(status) => text_of(alloc, &out, &err, status),
         Err(_) => Err(RowError::Memory),
     }

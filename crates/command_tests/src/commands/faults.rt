@@ -1,5 +1,6 @@
 //! Readers and writers that fail.
 use crate::output::text_of;
+use jbench_commands::image::ImageFiles;
 use jbench_commands::run::run;
 use jbench_words::words::{RunWords, StopWords};
 use std::alloc::Global;
@@ -64,7 +65,15 @@ impl Write for BrokenWriter {
 fn said_of_no_script(alloc: Global) -> Result<String, Fail> {
     let mut out = Vec::new(alloc);
     let mut err = Vec::new(alloc);
-    let status = run(alloc, &words(alloc), BrokenReader, &mut out, &mut err)?;
+    let image = None::<ImageFiles>;
+    let status = run(
+        alloc,
+        &words(alloc),
+        BrokenReader,
+        image,
+        &mut out,
+        &mut err,
+    )?;
     text_of(alloc, &out, &err, status)
 }
 
@@ -81,8 +90,9 @@ fn a_script_that_cannot_be_read(rt: HostRuntime) -> Result<(), Fail> {
 /// Whether a run whose output fails after this many calls fails too, without a message.
 fn is_broken(alloc: Global, calls: u32) -> bool {
     let mut err = Vec::new(alloc);
-    let writer = BrokenWriter { calls };
-    let answer = run(alloc, &words(alloc), ONE_WRITE.as_bytes(), writer, &mut err);
+    let (writer, image) = (BrokenWriter { calls }, None::<ImageFiles>);
+    let script = ONE_WRITE.as_bytes();
+    let answer = run(alloc, &words(alloc), script, image, writer, &mut err);
     answer.is_err() && err.is_empty()
 }
 
