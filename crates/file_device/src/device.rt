@@ -5,8 +5,8 @@
 //!
 //! - Each function of `calls` makes the call that it notes, on that file, and notes its answer. One that noted a sync without a sync, or a
 //!   read with other bytes, would prove as well.
-//! - A file gives back what it took, and nobody else writes it while the device exists. If a read shows otherwise, `honest` is lost, and
-//!   with it the clause on the bytes of reads; all other clauses stand.
+//! - A file gives back what it took, and nobody else writes it while the device exists. If a read shows otherwise, also one ahead, `honest`
+//!   is lost, and with it the clause on the bytes of reads; all other clauses stand.
 //! - A sync that answers Ok has made durable all that the file took, and what it gave.
 //! - A crash leaves each block whole, as before a write or after it. The same holds, block by block, of a call that writes several and
 //!   fails or is cut by a crash; no other block changes.
@@ -51,7 +51,7 @@ impl Contents for UnknownContents {
 /// are never touched. Lengths are read once, when the device is made. A flush makes the area's file durable (fdatasync), if there is one.
 ///
 /// Reads: for a reader that goes over an area from block to block, leaving out a few at most, one system call fills a buffer of 64 KiB. A
-/// write to that area, and each flush, empties it.
+/// write to that area, and each flush, empties it. If that call fails, the block is read alone, and the next read tries again.
 ///
 /// Writes: consecutive blocks of an area are gathered in a buffer of 64 KiB. One system call writes them when a write can't be gathered
 /// with them, either area is flushed, or the device is dropped. Each write to the log is gathered; one to home is if it follows the

@@ -9,7 +9,7 @@ use std::io::Read;
 ///
 /// # Errors
 ///
-/// The reader failed, or memory ran out.
+/// `Fault::of_file` of the reader's answer, or of a lack of memory. The bytes read so far are lost.
 pub fn read_text<R: Read + Drop>(alloc: Global, mut reader: R) -> Result<Vec<u8>, Fault>
     ensures { IfOk result (λ text. IfSome (R.remaining reader) (λ bytes. text.items ≡ bytes)) }
 {

@@ -73,11 +73,11 @@ pub enum Wake {
 pub struct Signals {
     /// Counts stops of handles, seals, commits and device failures.
     pub changes: EventCounter,
-    /// Counts checkpoint rounds that are over.
+    /// Counts rounds of the checkpoint worker that are over.
     pub room: EventCounter,
     /// A round, until it begins.
     pub(crate) round: Request,
-    /// Device calls of commits since a round was last requested for them.
+    /// Device calls of commits since a round was last begun or requested for them.
     steps: AtomicU64,
     /// A commit because half of the credits are used, until the worker begins to look.
     pub half_full: Request,
@@ -119,7 +119,7 @@ impl Signals {
         self.steps.fetch_add(1, Ordering::SeqCst);
     }
 
-    /// Forgets the device calls so far: a round is requested for them.
+    /// Forgets the device calls so far: a round is begun or requested for them.
     pub(crate) fn forget_steps(&self) {
         self.steps.store(0, Ordering::SeqCst);
     }

@@ -3,7 +3,7 @@
 use crate::expected::expect;
 use block_device::{Device, FailOnce, MemDevice};
 use group_commit::{FrontCalls, Journal, Record, Ticket, Turn};
-use journal_model::{BlockNo, JournalError};
+use journal_model::{Area, BlockNo, JournalError};
 use recovery::Opened;
 use std::alloc::Global;
 use std::test::Fail;
@@ -31,10 +31,13 @@ fn journal(alloc: Global, fail: u64) -> Result<Read, JournalError> {
     journal_on(alloc, empty(alloc, fail)?)
 }
 
-/// The first byte of a block.
+/// The first byte of a block, if the journal has the measures of its device.
 fn first(journal: &mut Read, block: u64) -> Result<u8, JournalError> {
     let mut bytes = [0xee; BLOCK_SIZE];
     if journal.block_size() != BLOCK_SIZE {
+        return Err(JournalError::TooMany);
+    }
+    if journal.home_blocks() != journal.device().blocks(Area::Home) {
         return Err(JournalError::TooMany);
     }
     journal.read_newest(BlockNo(block), &mut bytes)?;

@@ -4,6 +4,7 @@ ghost use Rattle.std.specs.Prelude.{◌≡◌};
 mod gates;
 mod own;
 mod refused;
+mod rounds;
 mod tasks;
 
 use crate::expected::expect;
