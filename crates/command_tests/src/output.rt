@@ -47,7 +47,7 @@ pub fn said(rt: &HostRuntime, line: &'static str) -> Result<String, Fail> {
     let mut out = Vec::new(rt.alloc());
     let mut err = Vec::new(rt.alloc());
     match parse(rt.alloc(), &words) {
-        Ok(Words::Alone(words)) => {
+        Ok(Words::OneThread(words)) => {
             let status = obey(rt, UnknownContents, &words, &mut out, &mut err)?;
             text_of(rt.alloc(), &out, &err, status)
         }

@@ -3,7 +3,7 @@ use Rattle.std.specs.Prelude.{ℕ, List, Option}
 use Rattle.file_device.specs.Files.{FileContents, FileState, HasAgreed, file_state}
 use Rattle.commit_times.specs.Closed.{IsLeftClosed}
 use Rattle.jbench_words.specs.declared.words.Words.{Words}
-use Rattle.jbench_words.specs.declared.words.Words.TheVariants.{Threads, Bench, Serve, Alone}
+use Rattle.jbench_words.specs.declared.words.Words.TheVariants.{Threads, Bench, Serve, OneThread}
 use Rattle.jbench_commands.specs.Obeying.{TextReads, IsOfText, HasObeyed as HasObeyedAlone}
 use Rattle.script_threads.specs.Runs.{HasFoundFalse, HasServed}
 
@@ -20,11 +20,11 @@ abbrev pub HasObeyed : (first : FileContents) → (reads : TextReads) → (conte
 HasObeyed first reads contents (Threads path) = IsOfText reads HasServed
 HasObeyed first reads contents (Bench words) = IsClosedDone first
 HasObeyed first reads contents (Serve words) = IsClosedDone first
-HasObeyed first reads contents (Alone words) = HasObeyedAlone first reads contents words
+HasObeyed first reads contents (OneThread words) = HasObeyedAlone first reads contents words
 
 -- a command that ends with 2 ran clients in threads, and has a false verdict
 abbrev pub HasFoundWrong : (reads : TextReads) → Words → Type 0
 HasFoundWrong reads (Threads path) = IsOfText reads HasFoundFalse
 HasFoundWrong reads (Bench words) = ⊥
 HasFoundWrong reads (Serve words) = ⊥
-HasFoundWrong reads (Alone words) = ⊥
+HasFoundWrong reads (OneThread words) = ⊥

@@ -8,7 +8,7 @@ ghost use Rattle.script_threads.specs.Runs.{HasFoundFalse, HasServed};
 use crate::serving;
 use commit_times::{bench, threads as timed};
 use file_device::{Contents, FileDevice};
-use jbench_commands::obeying as alone;
+use jbench_commands::obeying as one_thread;
 use jbench_commands::progress::Progress;
 use jbench_files::{Text, device_of, open_pair_within, open_text};
 use jbench_words::fault::{Status, refuse_file};
@@ -41,7 +41,7 @@ pub(crate) fn obey<T: Threads + Wait + Sync, C: Contents + Send, W: Write + Drop
         Words::Threads(path) => threads_file(rt, threads, path, out, err),
         Words::Bench(words) => bench_files(rt, threads, contents, words, out, err),
         Words::Serve(words) => serve_files(rt, threads, contents, words, err),
-        Words::Alone(words) => alone::obey(rt, contents, words, out, err),
+        Words::OneThread(words) => one_thread::obey(rt, contents, words, out, err),
     }
 }
 

@@ -6,8 +6,8 @@ use Rattle.file_device.specs.Files.{FileContents, FileState, HasAgreed, file_sta
 use Rattle.script_client.specs.Ended.{IsLeftClosed}
 use Rattle.jbench_words.specs.declared.words.ApplyWords.{ApplyWords}
 use Rattle.jbench_words.specs.declared.words.FormatWords.{FormatWords}
-use Rattle.jbench_words.specs.declared.words.AloneWords.{AloneWords}
-use Rattle.jbench_words.specs.declared.words.AloneWords.TheVariants.{Run, Sweep, Check, Format, Dump, Cat, Show, Recover, Upgrade, Apply, Completions, Man}
+use Rattle.jbench_words.specs.declared.words.OneThreadWords.{OneThreadWords}
+use Rattle.jbench_words.specs.declared.words.OneThreadWords.TheVariants.{Run, Sweep, Check, Format, Dump, Cat, Show, Recover, Upgrade, Apply, Completions, Man}
 use Rattle.jbench_files.specs.Apart.{AreApart}
 use Rattle.jbench_files.specs.Cleared.{cleared, log_cleared}
 use Rattle.jbench_files.specs.Over.{IsOver}
@@ -87,7 +87,7 @@ pub record IsAppliedOver (first : FileContents) (reads : TextReads) (words : App
   pub closed : words.stay ≡ false → HasAgreed first left → IsLeftClosed (file_state first left) sealed
 
 -- What the command did, over log files with this first content, an output with these first contents, and texts whose reads are known so.
-abbrev pub HasObeyed : (first : FileContents) → (reads : TextReads) → (contents : Option (List ℕ)) → AloneWords → Type 0
+abbrev pub HasObeyed : (first : FileContents) → (reads : TextReads) → (contents : Option (List ℕ)) → OneThreadWords → Type 0
 HasObeyed first reads contents (Run words) = IsOfText reads (λ text. HasRun (runs_told words.image) text words true)
 HasObeyed first reads contents (Sweep words) = IsOfText reads (λ text. HasSwept text words.fails 0)
 HasObeyed first reads contents (Check path) = IsOfText reads HasTakenEither

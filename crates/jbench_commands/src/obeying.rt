@@ -26,7 +26,7 @@ use jbench_views::{cat, dump, show};
 use jbench_words::fault::{Status, refuse_file};
 use jbench_words::watch::Watch;
 use jbench_words::words::{
-    AloneWords, ApplyWords, CatWords, DumpWords, FormatWords, LogPaths, RecoverWords, RunWords,
+    ApplyWords, CatWords, DumpWords, FormatWords, LogPaths, OneThreadWords, RecoverWords, RunWords,
     ShowWords, SweepWords,
 };
 use std::alloc::Global;
@@ -35,10 +35,14 @@ use std::io::{ErrorKind, Read, Write};
 
 /// Runs the command that the words name. `contents` is what a log's files are assumed to hold. No command ends with status 2: a sweep
 /// counts only right openings.
+///
+/// # Errors
+///
+/// The output could not be written, or memory ran out.
 pub fn obey<C: Contents, W: Write + Drop, E: Write + Drop>(
     rt: &HostRuntime,
     contents: C,
-    words: &AloneWords<'_>,
+    words: &OneThreadWords<'_>,
     out: W,
     err: E,
 ) -> io::Result<Status>
@@ -46,18 +50,18 @@ pub fn obey<C: Contents, W: Write + Drop, E: Write + Drop>(
     ensures other { IfOk result (λ status. status ≢ Fine → status ≡ Refused) }
 {
     match words {
-        AloneWords::Run(words) => run_file(rt, words, out, err),
-        AloneWords::Sweep(words) => sweep_file(rt, words, out, err),
-        AloneWords::Check(path) => check_file(rt, path, out, err),
-        AloneWords::Format(words) => format_files(rt, contents, words, out, err),
-        AloneWords::Dump(words) => dump_file(rt, contents, words, out, err),
-        AloneWords::Cat(words) => cat_files(rt, contents, words, out, err),
-        AloneWords::Show(words) => show_file(rt, contents, words, out, err),
-        AloneWords::Recover(words) => recover_files(rt, contents, words, out, err),
-        AloneWords::Upgrade(path) => upgrade_file(rt, contents, path, out, err),
-        AloneWords::Apply(words) => apply_files(rt, contents, words, out, err),
-        AloneWords::Completions(shell) => print_completions(*shell, out),
-        AloneWords::Man => print_manual(out),
+        OneThreadWords::Run(words) => run_file(rt, words, out, err),
+        OneThreadWords::Sweep(words) => sweep_file(rt, words, out, err),
+        OneThreadWords::Check(path) => check_file(rt, path, out, err),
+        OneThreadWords::Format(words) => format_files(rt, contents, words, out, err),
+        OneThreadWords::Dump(words) => dump_file(rt, contents, words, out, err),
+        OneThreadWords::Cat(words) => cat_files(rt, contents, words, out, err),
+        OneThreadWords::Show(words) => show_file(rt, contents, words, out, err),
+        OneThreadWords::Recover(words) => recover_files(rt, contents, words, out, err),
+        OneThreadWords::Upgrade(path) => upgrade_file(rt, contents, path, out, err),
+        OneThreadWords::Apply(words) => apply_files(rt, contents, words, out, err),
+        OneThreadWords::Completions(shell) => print_completions(*shell, out),
+        OneThreadWords::Man => print_manual(out),
     }
 }
 

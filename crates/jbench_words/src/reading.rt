@@ -5,8 +5,8 @@ ghost use Rattle.log_format.specs.Size.{IsBlockSize};
 
 use crate::wanted::Wanted;
 use crate::words::{
-    AloneWords, ApplyWords, BenchWords, CatWords, DumpWords, FormatWords, LogPaths, RecoverWords,
-    RunWords, ServeWords, ShowWords, StopWords, SweepWords, Words,
+    ApplyWords, BenchWords, CatWords, DumpWords, FormatWords, LogPaths, OneThreadWords,
+    RecoverWords, RunWords, ServeWords, ShowWords, StopWords, SweepWords, Words,
 };
 use clap::ArgMatches;
 use jbench_help::Shell;
@@ -299,29 +299,29 @@ fn command_words<'a>(
         "threads" => Ok(Words::Threads(script_told(told))),
         "bench" => bench_words(told).map(Words::Bench),
         "serve" => serve_words(told).map(Words::Serve),
-        _ => alone_words(alloc, name, told).map(Words::Alone),
+        _ => one_thread_words(alloc, name, told).map(Words::OneThread),
     }
 }
 
 /// The words of the command of this name, if it starts no thread.
-fn alone_words<'a>(
+fn one_thread_words<'a>(
     alloc: Global,
     name: &str,
     told: &ArgMatches<'a>,
-) -> Result<AloneWords<'a>, Wanted> {
+) -> Result<OneThreadWords<'a>, Wanted> {
     match name {
-        "run" => run_words(alloc, told).map(AloneWords::Run),
-        "sweep" => Ok(AloneWords::Sweep(sweep_words(told))),
-        "check" => Ok(AloneWords::Check(script_told(told))),
-        "format" => format_words(alloc, told).map(AloneWords::Format),
-        "dump" => dump_words(told).map(AloneWords::Dump),
-        "cat" => cat_words(told).map(AloneWords::Cat),
-        "show" => Ok(AloneWords::Show(show_words(told))),
-        "recover" => recover_words(told).map(AloneWords::Recover),
-        "upgrade" => Ok(AloneWords::Upgrade(log_told(told))),
-        "apply" => apply_words(told).map(AloneWords::Apply),
-        "completions" => Ok(AloneWords::Completions(shell_told(told)?)),
-        "man" => Ok(AloneWords::Man),
+        "run" => run_words(alloc, told).map(OneThreadWords::Run),
+        "sweep" => Ok(OneThreadWords::Sweep(sweep_words(told))),
+        "check" => Ok(OneThreadWords::Check(script_told(told))),
+        "format" => format_words(alloc, told).map(OneThreadWords::Format),
+        "dump" => dump_words(told).map(OneThreadWords::Dump),
+        "cat" => cat_words(told).map(OneThreadWords::Cat),
+        "show" => Ok(OneThreadWords::Show(show_words(told))),
+        "recover" => recover_words(told).map(OneThreadWords::Recover),
+        "upgrade" => Ok(OneThreadWords::Upgrade(log_told(told))),
+        "apply" => apply_words(told).map(OneThreadWords::Apply),
+        "completions" => Ok(OneThreadWords::Completions(shell_told(told)?)),
+        "man" => Ok(OneThreadWords::Man),
         _ => Err(Wanted::Command),
     }
 }

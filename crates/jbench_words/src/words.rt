@@ -23,12 +23,12 @@ pub enum Words<'a> {
     /// Serves a log's home area as a block device.
     Serve(ServeWords<'a>),
     /// Does what starts no thread.
-    Alone(AloneWords<'a>),
+    OneThread(OneThreadWords<'a>),
 }
 
 /// What the program does in its own thread.
 #[derive(Drop)]
-pub enum AloneWords<'a> {
+pub enum OneThreadWords<'a> {
     /// Runs a script.
     Run(RunWords<'a>),
     /// Sweeps a script.

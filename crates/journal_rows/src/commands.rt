@@ -8,8 +8,8 @@ use jbench_logs::{logs, recovering};
 use jbench_words::fault::Status;
 use jbench_words::watch::Unwatched;
 use jbench_words::words::{
-    AloneWords, ApplyWords, BenchWords, CatWords, DumpWords, FormatWords, RecoverWords, RunWords,
-    ServeWords, ShowWords, StopWords, SweepWords, Words, answer, parse,
+    ApplyWords, BenchWords, CatWords, DumpWords, FormatWords, OneThreadWords, RecoverWords,
+    RunWords, ServeWords, ShowWords, StopWords, SweepWords, Words, answer, parse,
 };
 use journal_script::{Script, ScriptError, read};
 use log_rows::RowError;
@@ -28,7 +28,7 @@ pub fn run<R: Wait>(rt: &R, alloc: Global, given: &str) -> Result<String, RowErr
     let (line, script) = given.split_once('\n').unwrap_or((given, ""));
     let words = words_in(alloc, line)?;
     match parse(alloc, &words) {
-        Ok(Words::Alone(AloneWords::Run(words))) => {
+        Ok(Words::OneThread(OneThreadWords::Run(words))) => {
             let alone = run_script(alloc, &words, script);
             match run_shared(rt, alloc, &words, script)? {
                 Some(shared) => both(alloc, alone, Ok(shared)),
@@ -108,7 +108,7 @@ pub fn sweep(alloc: Global, given: &str) -> Result<String, RowError> {
     let (line, script) = cut(given, "\n")?;
     let words = words_in(alloc, line)?;
     match parse(alloc, &words) {
-        Ok(Words::Alone(AloneWords::Sweep(words))) => sweep_script(alloc, &words, script),
+        Ok(Words::OneThread(OneThreadWords::Sweep(words))) => sweep_script(alloc, &words, script),
         _ => Err(RowError::Unread),
     }
 }
@@ -129,7 +129,7 @@ pub fn check(alloc: Global, given: &str) -> Result<String, RowError> {
     let (line, script) = given.split_once('\n').unwrap_or((given, ""));
     let words = words_in(alloc, line)?;
     match parse(alloc, &words) {
-        Ok(Words::Alone(AloneWords::Check(path))) => check_script(alloc, path, script),
+        Ok(Words::OneThread(OneThreadWords::Check(path))) => check_script(alloc, path, script),
         _ => Err(RowError::Unread),
     }
 }
@@ -164,7 +164,7 @@ pub fn format(alloc: Global, given: &str) -> Result<String, RowError> {
     let (line, shape) = cut(given, "\n")?;
     let words = words_in(alloc, line)?;
     match parse(alloc, &words) {
-        Ok(Words::Alone(AloneWords::Format(words))) => format_device(
+        Ok(Words::OneThread(OneThreadWords::Format(words))) => format_device(
             alloc,
             &words,
             device_of(alloc, shape)?,
@@ -204,7 +204,7 @@ pub fn recover(alloc: Global, given: &str) -> Result<String, RowError> {
     let (line, log) = cut(given, "\n")?;
     let words = words_in(alloc, line)?;
     match parse(alloc, &words) {
-        Ok(Words::Alone(AloneWords::Recover(words))) => recover_device(
+        Ok(Words::OneThread(OneThreadWords::Recover(words))) => recover_device(
             alloc,
             &words,
             log_on_device(alloc, log)?,
@@ -237,7 +237,7 @@ pub fn upgrade(alloc: Global, given: &str) -> Result<String, RowError> {
     let (line, log) = cut(given, "\n")?;
     let words = words_in(alloc, line)?;
     match parse(alloc, &words) {
-        Ok(Words::Alone(AloneWords::Upgrade(path))) => upgrade_device(
+        Ok(Words::OneThread(OneThreadWords::Upgrade(path))) => upgrade_device(
             alloc,
             path,
             log_on_device(alloc, log)?,
@@ -261,7 +261,7 @@ pub fn show(alloc: Global, given: &str) -> Result<String, RowError> {
     let (line, log) = cut(given, "\n")?;
     let words = words_in(alloc, line)?;
     match parse(alloc, &words) {
-        Ok(Words::Alone(AloneWords::Show(words))) => show_device(
+        Ok(Words::OneThread(OneThreadWords::Show(words))) => show_device(
             alloc,
             &words,
             log_on_device(alloc, log)?,
@@ -299,27 +299,27 @@ fn told(alloc: Global, words: &Words<'_>) -> Result<String, RowError> {
         Words::Threads(script) => Ok(format!(in alloc; "threads {script}")?),
         Words::Bench(words) => Ok(told_bench(alloc, words)?),
         Words::Serve(words) => told_serve(alloc, words),
-        Words::Alone(words) => told_alone(alloc, words),
+        Words::OneThread(words) => told_one_thread(alloc, words),
     }
 }
 
-fn told_alone(alloc: Global, words: &AloneWords<'_>) -> Result<String, RowError> {
+fn told_one_thread(alloc: Global, words: &OneThreadWords<'_>) -> Result<String, RowError> {
     match words {
-        AloneWords::Run(words) => Ok(told_run(alloc, words)?),
-        AloneWords::Sweep(words) => told_sweep(alloc, words),
-        AloneWords::Check(script) => Ok(format!(in alloc; "check {script}")?),
-        AloneWords::Format(words) => told_format(alloc, words),
-        AloneWords::Dump(words) => Ok(told_dump(alloc, words)?),
-        AloneWords::Cat(words) => Ok(told_cat(alloc, words)?),
-        AloneWords::Show(words) => {
+        OneThreadWords::Run(words) => Ok(told_run(alloc, words)?),
+        OneThreadWords::Sweep(words) => told_sweep(alloc, words),
+        OneThreadWords::Check(script) => Ok(format!(in alloc; "check {script}")?),
+        OneThreadWords::Format(words) => told_format(alloc, words),
+        OneThreadWords::Dump(words) => Ok(told_dump(alloc, words)?),
+        OneThreadWords::Cat(words) => Ok(told_cat(alloc, words)?),
+        OneThreadWords::Show(words) => {
             let json = if words.json { ", json" } else { "" };
             Ok(format!(in alloc; "show {}{json}", words.log)?)
         }
-        AloneWords::Recover(words) => Ok(told_recover(alloc, words)?),
-        AloneWords::Upgrade(log) => Ok(format!(in alloc; "upgrade {log}")?),
-        AloneWords::Apply(words) => Ok(told_apply(alloc, words)?),
-        AloneWords::Completions(shell) => Ok(format!(in alloc; "completions {shell:?}")?),
-        AloneWords::Man => Ok(format!(in alloc; "man")?),
+        OneThreadWords::Recover(words) => Ok(told_recover(alloc, words)?),
+        OneThreadWords::Upgrade(log) => Ok(format!(in alloc; "upgrade {log}")?),
+        OneThreadWords::Apply(words) => Ok(told_apply(alloc, words)?),
+        OneThreadWords::Completions(shell) => Ok(format!(in alloc; "completions {shell:?}")?),
+        OneThreadWords::Man => Ok(format!(in alloc; "man")?),
     }
 }
 
@@ -549,8 +549,10 @@ pub fn printed(alloc: Global, given: &str) -> Result<String, RowError> {
     let words = words_in(alloc, line)?;
     let mut out = Vec::new(alloc);
     let printed = match parse(alloc, &words) {
-        Ok(Words::Alone(AloneWords::Completions(shell))) => write_completions(shell, &mut out),
-        Ok(Words::Alone(AloneWords::Man)) => write_manual(&mut out),
+        Ok(Words::OneThread(OneThreadWords::Completions(shell))) => write_completions(
+            shell, &mut out,
+        ),
+        Ok(Words::OneThread(OneThreadWords::Man)) => write_manual(&mut out),
         _ => return Err(RowError::Unread),
     };
     match printed {

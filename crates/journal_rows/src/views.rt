@@ -3,7 +3,7 @@ use crate::commands::{log_on_device, text_of, words_in};
 use block_device::MemDevice;
 use jbench_views::{cat, dump};
 use jbench_words::fault::Status;
-use jbench_words::words::{AloneWords, CatWords, DumpWords, Words, parse};
+use jbench_words::words::{CatWords, DumpWords, OneThreadWords, Words, parse};
 use log_rows::RowError;
 use log_rows::words::cut;
 use std::alloc::Global;
@@ -18,8 +18,8 @@ pub fn looked(alloc: Global, given: &str) -> Result<String, RowError> {
     let words = words_in(alloc, line)?;
     let device = log_on_device(alloc, log)?;
     match parse(alloc, &words) {
-        Ok(Words::Alone(AloneWords::Dump(words))) => dumped(alloc, &words, device),
-        Ok(Words::Alone(AloneWords::Cat(words))) => block_of(alloc, &words, device),
+        Ok(Words::OneThread(OneThreadWords::Dump(words))) => dumped(alloc, &words, device),
+        Ok(Words::OneThread(OneThreadWords::Cat(words))) => block_of(alloc, &words, device),
         _ => Err(RowError::Unread),
     }
 }

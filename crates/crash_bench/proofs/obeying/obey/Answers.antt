@@ -23,8 +23,8 @@ pub returns-in-Serve-clause-wrong : goal.returns-in-Serve-clause-wrong
 returns-in-Serve-clause-wrong g c = rw c.in-Serve.is (never-wrong c.serve_files.result c.serve_files.ensures.other)
 
 -- a command that starts no thread
-pub returns-in-Alone-clause-done : goal.returns-in-Alone-clause-done
-returns-in-Alone-clause-done g c = rw c.in-Alone.is c.obey.ensures.done
+pub returns-in-OneThread-clause-done : goal.returns-in-OneThread-clause-done
+returns-in-OneThread-clause-done g c = rw c.in-OneThread.is c.obey.ensures.done
 
-pub returns-in-Alone-clause-wrong : goal.returns-in-Alone-clause-wrong
-returns-in-Alone-clause-wrong g c = rw c.in-Alone.is (never-wrong c.obey.result c.obey.ensures.other)
+pub returns-in-OneThread-clause-wrong : goal.returns-in-OneThread-clause-wrong
+returns-in-OneThread-clause-wrong g c = rw c.in-OneThread.is (never-wrong c.obey.result c.obey.ensures.other)
