@@ -6,7 +6,7 @@ use crate::stopped::Stopped;
 use block_device::Device;
 use journal_model::{BlockNo, JournalError};
 use journal_workers::Gate;
-use shared_journal::{Handle, JournalName, Record, Ticket};
+use shared_journal::{JournalName, Record, SharedHandle, SharedTicket};
 use std::sync::Wait;
 use volume_service::Session;
 
@@ -74,7 +74,7 @@ pub fn revoke_blocks<J: JournalName, D: Device, R: Record, G: Gate, W: Wait>(
     first: u64,
     count: u64,
     stopped: &mut Stopped,
-) -> Result<Ticket<J, R>, JournalError>
+) -> Result<SharedTicket<J, R>, JournalError>
     ensures steps { IfOk result (λ ticket. ticket.steps ≡ revoke_steps ticket.ticket.handle first count) }
     ensures noted { IfOk result (λ ticket. ticket.ticket.tid ≤ stopped.new) }
     ensures kept { stopped.old ≤ stopped.new }
@@ -96,7 +96,7 @@ pub fn revoke_blocks<J: JournalName, D: Device, R: Record, G: Gate, W: Wait>(
 fn revoke_all<'s, J: JournalName, D: Device, R: Record, G: Gate, W: Wait>(
     rt: &W,
     session: &Session<'s, J, D, R, G>,
-    handle: &mut Handle<'s, J, R>,
+    handle: &mut SharedHandle<'s, J, R>,
     first: u64,
     count: u64,
 ) -> Result<(), JournalError>

@@ -7,7 +7,7 @@ use crate::stopped::Stopped;
 use block_device::Device;
 use journal_model::{BlockNo, JournalError};
 use journal_workers::Gate;
-use shared_journal::{Handle, JournalName, Record, Ticket};
+use shared_journal::{JournalName, Record, SharedHandle, SharedTicket};
 use std::alloc::Global;
 use std::sync::Wait;
 use volume_service::Session;
@@ -72,7 +72,7 @@ fn write_once<J: JournalName, D: Device, R: Record, G: Gate, W: Wait>(
     offset: u64,
     bytes: &[u8],
     stopped: &mut Stopped,
-) -> Result<Ticket<J, R>, JournalError>
+) -> Result<SharedTicket<J, R>, JournalError>
     ensures once { IfOk result (λ ticket. WritesRange D.state D.honest J.name.shape.block_size offset bytes.now ticket) }
     ensures noted { IfOk result (λ ticket. ticket.ticket.tid ≤ stopped.new) }
     ensures kept { stopped.old ≤ stopped.new }
@@ -162,7 +162,7 @@ fn write_blocks<J: JournalName, D: Device, R: Record, G: Gate, W: Wait>(
     first: u64,
     bytes: &[u8],
     stopped: &mut Stopped,
-) -> Result<Ticket<J, R>, JournalError>
+) -> Result<SharedTicket<J, R>, JournalError>
     ensures steps { IfOk result (λ ticket. ticket.steps ≡ write_steps ticket.ticket.handle first J.name.shape.block_size bytes.now (length bytes.now / J.name.shape.block_size)) }
     ensures noted { IfOk result (λ ticket. ticket.ticket.tid ≤ stopped.new) }
     ensures kept { stopped.old ≤ stopped.new }
@@ -186,7 +186,7 @@ fn write_blocks<J: JournalName, D: Device, R: Record, G: Gate, W: Wait>(
 fn fill<'s, J: JournalName, D: Device, R: Record, G: Gate, W: Wait>(
     rt: &W,
     session: &Session<'s, J, D, R, G>,
-    handle: &mut Handle<'s, J, R>,
+    handle: &mut SharedHandle<'s, J, R>,
     first: u64,
     bytes: &[u8],
     size: usize,

@@ -10,7 +10,7 @@ use block_device::Device;
 use jbench_words::fault::Fault;
 use jbench_words::words::BenchWords;
 use journal_model::{BlockNo, JournalError};
-use shared_journal::{Handle, Journal, JournalName, Receipt, Seat, Ticket};
+use shared_journal::{Journal, JournalName, Seat, SharedHandle, SharedReceipt, SharedTicket};
 use std::alloc::Global;
 use std::sync::atomic::{AtomicU64, Ordering};
 use std::sync::{Mutex, MutexGuard, Wait};
@@ -168,7 +168,7 @@ impl<'s, J: JournalName, D: Device, C: Clock> Client<'s, J, D, C> {
         }
     }
 
-    fn timed<W: Wait>(&mut self, rt: &W) -> Result<Receipt<J>, Fault>
+    fn timed<W: Wait>(&mut self, rt: &W) -> Result<SharedReceipt<J>, Fault>
         ensures { IfOk result (λ receipt. receipt.ticket.tid ≤ receipt.ticket.seen) }
     {
         let ticket = self.change(rt)?;
@@ -186,7 +186,7 @@ impl<'s, J: JournalName, D: Device, C: Clock> Client<'s, J, D, C> {
     }
 
     /// Writes the next transaction's blocks through one handle, and stops that, also after a refusal.
-    fn change<W: Wait>(&mut self, rt: &W) -> Result<Ticket<J>, JournalError> {
+    fn change<W: Wait>(&mut self, rt: &W) -> Result<SharedTicket<J>, JournalError> {
         let (mut handle, alone) = self.start(rt)?;
         let written = self.write_all(rt, &mut handle);
         let ticket = self.shared.journal.stop(rt, handle);
@@ -201,7 +201,7 @@ impl<'s, J: JournalName, D: Device, C: Clock> Client<'s, J, D, C> {
     fn start<W: Wait>(
         &mut self,
         rt: &W,
-    ) -> Result<(Handle<'s, J>, MutexGuard<'s, ()>), JournalError> {
+    ) -> Result<(SharedHandle<'s, J>, MutexGuard<'s, ()>), JournalError> {
         let shared = self.shared;
         for _ in rt.forever() {
             let alone = shared.alone(rt);
@@ -225,7 +225,7 @@ impl<'s, J: JournalName, D: Device, C: Clock> Client<'s, J, D, C> {
     fn write_all<W: Wait>(
         &mut self,
         rt: &W,
-        handle: &mut Handle<'s, J>,
+        handle: &mut SharedHandle<'s, J>,
     ) -> Result<(), JournalError> {
         for number in 0..self.plan.copies() {
             let (block, fill) = self.plan.draw(number);
@@ -237,7 +237,7 @@ impl<'s, J: JournalName, D: Device, C: Clock> Client<'s, J, D, C> {
     fn write<W: Wait>(
         &mut self,
         rt: &W,
-        handle: &mut Handle<'s, J>,
+        handle: &mut SharedHandle<'s, J>,
         block: BlockNo,
         fill: u8,
     ) -> Result<(), JournalError> {
@@ -247,7 +247,11 @@ impl<'s, J: JournalName, D: Device, C: Clock> Client<'s, J, D, C> {
     }
 
     /// Waits until a ticket's transaction is committed; if nobody takes turns, it does.
-    fn wait<W: Wait>(&mut self, rt: &W, ticket: Ticket<J>) -> Result<Receipt<J>, JournalError>
+    fn wait<W: Wait>(
+        &mut self,
+        rt: &W,
+        ticket: SharedTicket<J>,
+    ) -> Result<SharedReceipt<J>, JournalError>
         ensures { IfOk result (λ receipt. receipt.ticket.tid ≤ receipt.ticket.seen) }
     {
         let shared = self.shared;

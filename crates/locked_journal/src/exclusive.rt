@@ -10,7 +10,7 @@ ghost use Rattle.locked_journal.specs.Known.{own_of_ticket};
 use crate::known::{Knowing, Recorded, look};
 use crate::locked::{Counters, Locked, Tally};
 use crate::name::{EngineSide, SidesReconciler};
-use crate::stopped::Receipt;
+use crate::stopped::SharedReceipt;
 use block_device::Device;
 use group_commit::{Journal as OneJournal, Record};
 use handle::{Credits, JournalName, Raiser};
@@ -71,7 +71,7 @@ impl<J: JournalName, D: Device, R: Record> Exclusive<J, D, R> {
 
     /// As `Locked::audit`, of the record that `into_single` returns.
     /// Source: this project's own.
-    pub fn audit(&mut self, receipt: &mut Receipt<J, R>)
+    pub fn audit(&mut self, receipt: &mut SharedReceipt<J, R>)
         ensures stands { Confirms self.old.journal.engine.committed (transactions self.old.journal.front) (own_of_ticket receipt.old) }
         ensures legal { KeepsLegal D.honest self.old }
         ensures same { (self.new ≡ self.old) × (receipt.new ≡ receipt.old) }

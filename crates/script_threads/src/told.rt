@@ -4,7 +4,7 @@ ghost use Rattle.std.specs.List.{AllZip};
 ghost use Rattle.script_threads.specs.Runs.{IsTold, named_by};
 
 use journal_model::{HandleNo, Tid};
-use shared_journal::{JournalName, Receipt, Record as RecordOf};
+use shared_journal::{JournalName, Record as RecordOf, SharedReceipt};
 use std::alloc::{AllocError, Global};
 use volume_service::{ClientOutcome, HandleOutcome};
 
@@ -55,7 +55,9 @@ fn told_client<J: JournalName, R: RecordOf>(
     Ok(told)
 }
 
-fn told_receipt<J: JournalName, R: RecordOf>(receipt: &Option<Receipt<J, R>>) -> Option<ToldReceipt>
+fn told_receipt<J: JournalName, R: RecordOf>(
+    receipt: &Option<SharedReceipt<J, R>>,
+) -> Option<ToldReceipt>
     ensures { result ≡ named_by receipt.now }
 {
     match receipt {

@@ -7,7 +7,7 @@ use journal_model::{BlockNo, JournalError, Sealed, Tid};
 use journal_script::{HandleName, Operation};
 use script_run::RunDevice;
 use shared_journal::{
-    CheckTurn, Handle, Journal, JournalName, Receipt, Seat, Status, Ticket, Turn,
+    CheckTurn, Journal, JournalName, Seat, SharedHandle, SharedReceipt, SharedTicket, Status, Turn,
 };
 use std::alloc::{AllocError, Global};
 use std::sync::Wait;
@@ -189,7 +189,7 @@ impl<'j, J: JournalName, R: Wait> Interpreter<'j, J, R> {
 
     fn touch_by(
         &mut self,
-        handle: &mut Handle<'j, J, Vec<Sealed>>,
+        handle: &mut SharedHandle<'j, J, Vec<Sealed>>,
         operation: &Operation,
     ) -> Outcome {
         match operation {
@@ -205,7 +205,7 @@ impl<'j, J: JournalName, R: Wait> Interpreter<'j, J, R> {
 
     fn write(
         &mut self,
-        handle: &mut Handle<'j, J, Vec<Sealed>>,
+        handle: &mut SharedHandle<'j, J, Vec<Sealed>>,
         block: BlockNo,
         bytes: &[u8],
     ) -> Outcome {
@@ -215,7 +215,7 @@ impl<'j, J: JournalName, R: Wait> Interpreter<'j, J, R> {
         }
     }
 
-    fn read(&mut self, handle: &mut Handle<'j, J, Vec<Sealed>>, block: BlockNo) -> Outcome {
+    fn read(&mut self, handle: &mut SharedHandle<'j, J, Vec<Sealed>>, block: BlockNo) -> Outcome {
         match vec![in self.alloc; 0; self.journal.block_size()] {
             Ok(mut bytes) => match self.journal.read(self.rt, handle, block, &mut bytes) {
                 Ok(()) => Outcome::Begins(front_of(&bytes)),
@@ -226,7 +226,7 @@ impl<'j, J: JournalName, R: Wait> Interpreter<'j, J, R> {
     }
 
     /// Reserves credits and adds them to a handle; if the handle refuses them, they return.
-    fn extend(&mut self, handle: &mut Handle<'j, J, Vec<Sealed>>, credits: u64) -> Outcome {
+    fn extend(&mut self, handle: &mut SharedHandle<'j, J, Vec<Sealed>>, credits: u64) -> Outcome {
         match self.journal.reserve(&mut self.seat, credits) {
             Ok(granted) => match self.journal.extend(self.rt, handle, granted) {
                 Ok(()) => Outcome::Done,
@@ -253,7 +253,7 @@ impl<'j, J: JournalName, R: Wait> Interpreter<'j, J, R> {
     fn restart_open(
         &mut self,
         name: HandleName,
-        handle: Handle<'j, J, Vec<Sealed>>,
+        handle: SharedHandle<'j, J, Vec<Sealed>>,
         credits: u64,
     ) -> Outcome {
         match self
@@ -412,7 +412,7 @@ impl<'j, J: JournalName, R: Wait> Interpreter<'j, J, R> {
     }
 
     /// Takes a ticket's receipt, if its transaction is committed.
-    fn wait_for(&mut self, name: HandleName, ticket: Ticket<J, Vec<Sealed>>) -> Outcome {
+    fn wait_for(&mut self, name: HandleName, ticket: SharedTicket<J, Vec<Sealed>>) -> Outcome {
         if matches!(self.journal.status(&ticket, &mut self.seat), Status::Open) {
             self.put(name, Slot::Stopped(ticket));
             return Outcome::Open;
@@ -437,7 +437,7 @@ impl<'j, J: JournalName, R: Wait> Interpreter<'j, J, R> {
     }
 
     /// Notes a receipt's transaction and answers it, or answers `Aborted` if the journal is aborted.
-    fn acknowledge_receipt(&mut self, receipt: &Receipt<J, Vec<Sealed>>) -> Outcome {
+    fn acknowledge_receipt(&mut self, receipt: &SharedReceipt<J, Vec<Sealed>>) -> Outcome {
         if let Err(e) = self.unless_aborted() {
             return Outcome::Refused(e);
         }

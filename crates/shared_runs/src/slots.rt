@@ -3,17 +3,17 @@ ghost use Rattle.std.specs.Prelude.{◌≡◌, [], vec_capacity};
 
 use journal_model::Sealed;
 use journal_script::HandleName;
-use shared_journal::{Handle, JournalName, Receipt, Ticket};
+use shared_journal::{JournalName, SharedHandle, SharedReceipt, SharedTicket};
 use std::mem;
 
 pub(crate) enum Slot<'j, J: JournalName> {
     /// No start was tried, or it was refused.
     Empty,
-    Open(Handle<'j, J, Vec<Sealed>>),
+    Open(SharedHandle<'j, J, Vec<Sealed>>),
     /// A stopped handle's ticket.
-    Stopped(Ticket<J, Vec<Sealed>>),
+    Stopped(SharedTicket<J, Vec<Sealed>>),
     /// The receipt for a stopped handle's ticket.
-    Waited(Receipt<J, Vec<Sealed>>),
+    Waited(SharedReceipt<J, Vec<Sealed>>),
 }
 
 /// One slot for each name.

@@ -6,7 +6,9 @@ use crate::expected::expect;
 use crate::journals::unnamed_on;
 use block_device::{Device, MemDevice};
 use journal_model::{Area, BlockNo, HandleNo, JournalError, Op, Sealed, Step};
-use shared_journal::{Handle, Journal, JournalName, Parts, Record, Seat, Ticket, UnnamedJournal};
+use shared_journal::{
+    Journal, JournalName, Parts, Record, Seat, SharedHandle, SharedTicket, UnnamedJournal,
+};
 use std::alloc::Global;
 use std::marker::Brand;
 use std::process::Abort;
@@ -52,7 +54,7 @@ fn start<'a, J: JournalName, D: Device, K: Record, R: Wait>(
     rt: &R,
     journal: &'a Journal<J, D, K>,
     seat: &mut Seat<J>,
-) -> Option<Handle<'a, J, K>> {
+) -> Option<SharedHandle<'a, J, K>> {
     for _ in 0..ASKS {
         match journal.try_start(rt, seat, 3) {
             Ok(handle) => return Some(handle),
@@ -73,7 +75,7 @@ fn start<'a, J: JournalName, D: Device, K: Record, R: Wait>(
 fn touch<J: JournalName, D: Device, K: Record, R: Wait>(
     rt: &R,
     journal: &Journal<J, D, K>,
-    handle: &mut Handle<'_, J, K>,
+    handle: &mut SharedHandle<'_, J, K>,
     thread: u8,
     round: u8,
 ) -> bool {
@@ -97,7 +99,7 @@ fn touch<J: JournalName, D: Device, K: Record, R: Wait>(
 fn finish<J: JournalName, D: Device, K: Record, R: Wait>(
     rt: &R,
     journal: &Journal<J, D, K>,
-    ticket: Ticket<J, K>,
+    ticket: SharedTicket<J, K>,
 ) -> bool {
     let mut ticket = ticket;
     if journal.request(rt, &mut ticket).is_err() {

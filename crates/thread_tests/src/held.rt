@@ -6,7 +6,7 @@ use crate::expected::expect;
 use crate::journals::unnamed_on;
 use block_device::{Device, DeviceFault};
 use journal_model::{Area, BlockNo, JournalError};
-use shared_journal::{CheckTurn, Journal, JournalName, Seat, Ticket, Turn, UnnamedJournal};
+use shared_journal::{CheckTurn, Journal, JournalName, Seat, SharedTicket, Turn, UnnamedJournal};
 use std::alloc::Global;
 use std::marker::Brand;
 use std::process::Abort;
@@ -118,7 +118,7 @@ fn write_one<J: JournalName, D: Device, R: Wait>(
     journal: &Journal<J, D>,
     mut seat: Seat<J>,
     block: u64,
-) -> Option<Ticket<J>> {
+) -> Option<SharedTicket<J>> {
     if journal.block_size() != 1024 {
         return None;
     }

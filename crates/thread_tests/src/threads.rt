@@ -6,7 +6,9 @@ use crate::journals::unnamed_on;
 use block_device::{Device, MemDevice};
 use file_device::{FileDevice, UnknownContents};
 use journal_model::BlockNo;
-use shared_journal::{Journal, JournalName, Seat, Status, Tally, Ticket, Turn, UnnamedJournal};
+use shared_journal::{
+    Journal, JournalName, Seat, SharedTicket, Status, Tally, Turn, UnnamedJournal,
+};
 use std::fs::{File, OpenOptions};
 use std::marker::Brand;
 use std::process::Abort;
@@ -62,7 +64,7 @@ fn write_all<J: JournalName, D: Device, R: Wait>(
     journal: &Journal<J, D>,
     mut seat: Seat<J>,
     first: u64,
-) -> Option<Ticket<J>> {
+) -> Option<SharedTicket<J>> {
     if journal.block_size() != 1024 {
         return None;
     }
@@ -89,7 +91,7 @@ fn write_all<J: JournalName, D: Device, R: Wait>(
 fn commit<J: JournalName, D: Device, R: Wait>(
     rt: &R,
     journal: &Journal<J, D>,
-    ticket: &mut Ticket<J>,
+    ticket: &mut SharedTicket<J>,
 ) -> bool {
     if journal.request(rt, ticket).is_err() {
         return false;
@@ -109,11 +111,11 @@ fn write_at_once<J: JournalName + Send + Sync, D: Device + Send, R: Threads + Wa
     journal: &Journal<J, D>,
     one: Seat<J>,
     two: Seat<J>,
-) -> Option<(Ticket<J>, Ticket<J>)> {
+) -> Option<(SharedTicket<J>, SharedTicket<J>)> {
     let (first, second) = join(
         rt,
-        || -> Option<Ticket<J>> { write_all(rt, journal, one, 0) },
-        || -> Option<Ticket<J>> { write_all(rt, journal, two, 100) },
+        || -> Option<SharedTicket<J>> { write_all(rt, journal, one, 0) },
+        || -> Option<SharedTicket<J>> { write_all(rt, journal, two, 100) },
     );
     match (first, second) {
         (Some(first), Some(second)) => Some((first, second)),
@@ -125,8 +127,8 @@ fn write_at_once<J: JournalName + Send + Sync, D: Device + Send, R: Threads + Wa
 fn both_stand<J: JournalName, D: Device, R: Wait>(
     rt: &R,
     journal: &Journal<J, D>,
-    first: Ticket<J>,
-    second: Ticket<J>,
+    first: SharedTicket<J>,
+    second: SharedTicket<J>,
 ) -> bool {
     match (journal.reach(first), journal.reach(second)) {
         (Ok(first), Ok(second)) => {
@@ -165,7 +167,7 @@ fn told_before<J: JournalName, R: Wait>(
     rt: &R,
     journal: &Journal<J, MemDevice>,
     seat: &mut Seat<J>,
-    ticket: &Ticket<J>,
+    ticket: &SharedTicket<J>,
 ) -> (Status, Tally, [bool; 2]) {
     let status = journal.status(ticket, seat);
     let tally = journal.tally(rt, seat);
@@ -183,7 +185,7 @@ fn told_after<J: JournalName, R: Wait>(
     rt: &R,
     journal: &Journal<J, MemDevice>,
     seat: &mut Seat<J>,
-    tickets: (Ticket<J>, Ticket<J>),
+    tickets: (SharedTicket<J>, SharedTicket<J>),
 ) -> (bool, bool, Status, bool) {
     let (mut first, second) = tickets;
     let committed = commit(rt, journal, &mut first);

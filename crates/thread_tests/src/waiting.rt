@@ -5,7 +5,7 @@ use crate::expected::expect;
 use crate::journals::unnamed_on;
 use block_device::{Device, StopAt};
 use journal_model::{BlockNo, JournalError, Tid};
-use shared_journal::{Handle, Journal, JournalName, Seat, Turn, UnnamedJournal};
+use shared_journal::{Journal, JournalName, Seat, SharedHandle, Turn, UnnamedJournal};
 use std::alloc::Global;
 use std::marker::Brand;
 use std::process::Abort;
@@ -32,7 +32,7 @@ enum Before {
 fn write_blocks<J: JournalName, D: Device, R: Wait>(
     rt: &R,
     journal: &Journal<J, D>,
-    handle: &mut Handle<'_, J>,
+    handle: &mut SharedHandle<'_, J>,
     blocks: u64,
 ) -> Result<(), JournalError> {
     if journal.block_size() != 1024 {

@@ -4,7 +4,7 @@ use super::LOG_BLOCKS;
 use crate::expected::expect;
 use block_device::{Device, MemDevice};
 use journal_model::{BlockNo, JournalError, Status, Tid};
-use shared_journal::{JournalName, Record, Ticket, Unrecorded};
+use shared_journal::{JournalName, Record, SharedTicket, Unrecorded};
 use std::alloc::Global;
 use std::sync::Wait;
 use std::test::Fail;
@@ -53,7 +53,7 @@ fn write_one<J: JournalName, D: Device, R: Record, G: Gate, W: Wait>(
     alloc: Global,
     session: &mut Session<'_, J, D, R, G>,
     block: u64,
-) -> Result<Ticket<J, R>, JournalError> {
+) -> Result<SharedTicket<J, R>, JournalError> {
     let bytes = vec![in alloc; 7u8; session.block_size()]?;
     let mut handle = session.start(rt, 1)?;
     let wrote = session.write(rt, &mut handle, BlockNo(block), &bytes);
