@@ -1,5 +1,5 @@
 -- What a read of a byte range gives.
-use Rattle.std.specs.Prelude.{◌≡◌, ◌≤◌, ◌<◌, ◌+◌, ◌/◌, ◌%◌, ◌++◌, ℕ, List, [], length, take, drop, replicate}
+use Rattle.std.specs.Prelude.{◌≡◌, ◌≤◌, ◌+◌, ◌/◌, ◌%◌, ◌++◌, ℕ, List, [], length, take, drop, replicate}
 use Rattle.journal_model.specs.declared.refusal.JournalError.TheVariants.{Revoked}
 use Rattle.block_device.specs.State.{DeviceState}
 use Rattle.journal_steps.specs.Journal.{NewestRefused, ReadsNewest}
@@ -31,10 +31,3 @@ pub data ReadsRange {D : Type 0} (state : D → DeviceState) (honest : D → Typ
   Further : (before part bytes : List ℕ) → ReadsRange state honest size offset before →
       ReadsPart state honest size ((offset + length before) / size) ((offset + length before) % size) (length part) part →
       bytes ≡ before ++ part → ReadsRange state honest size offset bytes
-
--- a list grew by n such bytes
-pub record AddsRange {D : Type 0} (state : D → DeviceState) (honest : D → Type 0) (size offset n : ℕ) (old new : List ℕ) : Type 0 where
-  pub bytes : List ℕ
-  pub range : ReadsRange state honest size offset bytes
-  pub count : length bytes ≡ n
-  pub added : new ≡ old ++ bytes

@@ -1,6 +1,6 @@
 //! Reads byte ranges, block by block, with the newest bytes.
-ghost use Rattle.std.specs.Prelude.{◌≡◌, ◌≤◌, ◌<◌, ◌+◌, ◌-◌, ◌/◌, ◌%◌, ◌^◌, length, IfOk, OnOk};
-ghost use Rattle.byte_volume.specs.Reading.{AddsPart, AddsRange, ReadsBlock};
+ghost use Rattle.std.specs.Prelude.{◌≡◌, ◌≤◌, ◌<◌, ◌+◌, ◌/◌, ◌%◌, ◌^◌, length, take, IfOk, OnOk};
+ghost use Rattle.byte_volume.specs.Reading.{AddsPart, ReadsBlock, ReadsPart, ReadsRange};
 
 use block_device::Device;
 use journal_model::{BlockNo, JournalError};
@@ -51,69 +51,73 @@ pub(crate) fn read_part<J: JournalName, D: Device, R: Record, G: Gate, W: Wait>(
     Ok(())
 }
 
-/// Reads from a byte to the end of its block, or of the wanted bytes if that comes first, and answers how many bytes these were.
+/// Fills the beginning of a buffer with the bytes from byte `at` to the end of its block, or with as many as the buffer has. It returns how
+/// many these were. `room` is a buffer of one block.
 fn read_on<J: JournalName, D: Device, R: Record, G: Gate, W: Wait>(
     rt: &W,
     session: &Session<'_, J, D, R, G>,
     room: &mut [u8],
     at: u64,
-    wanted: usize,
-    list: &mut Vec<u8>,
+    into: &mut [u8],
 ) -> Result<usize, JournalError>
     requires room { length room.old ≡ J.name.shape.block_size }
-    requires some { 0 < wanted }
-    ensures some { IfOk result (λ n. (0 < n) × (n ≤ wanted)) }
-    ensures adds { IfOk result (λ n. AddsPart D.state D.honest J.name.shape.block_size (at / J.name.shape.block_size) (at % J.name.shape.block_size) n list.old.items list.new.items) }
-    ensures length { length room.new ≡ length room.old }
+    requires some { 0 < length into.old }
+    ensures some { IfOk result (λ n. (0 < n) × (n ≤ length into.old)) }
+    ensures part { IfOk result (λ n. ReadsPart D.state D.honest J.name.shape.block_size (at / J.name.shape.block_size) (at % J.name.shape.block_size) n (take n into.new)) }
+    ensures length { (length into.new ≡ length into.old) × (length room.new ≡ length room.old) }
 {
     let size = session.block_size();
-    let from = (at % size as u64) as usize;
-    let count = wanted.min(size - from);
-    read_part(rt, session, room, at / size as u64, from, count, list)?;
+    let (block, from) = (at / size as u64, (at % size as u64) as usize);
+    let count = into.len().min(size - from);
+    if count == size {
+        read_block(rt, session, block, &mut into[..size])?;
+    } else {
+        read_block(rt, session, block, room)?;
+        into[..count].copy_from_slice(&room[from..from + count]);
+    }
     Ok(count)
 }
 
-/// Adds the `count` newest bytes from byte `offset` on to a list. Other clients may write between the reads of two blocks.
+/// Fills a buffer with the newest bytes from byte `offset` on. Other clients may write between the reads of two blocks.
 ///
 /// # Errors
 ///
-/// The list has some of the bytes, or none. Those of `Session::read_newest`, except `Revoked`; `BadBlock` also if the range ends past 2^64;
-/// `Memory`.
+/// The buffer has some of the bytes, or none. Those of `Session::read_newest`, except `Revoked`; `BadBlock` also if the range ends past
+/// 2^64; `Memory`.
 pub fn read_range<J: JournalName, D: Device, R: Record, G: Gate, W: Wait>(
     rt: &W,
     alloc: Global,
     session: &Session<'_, J, D, R, G>,
     offset: u64,
-    count: usize,
-    list: &mut Vec<u8>,
+    into: &mut [u8],
 ) -> Result<(), JournalError>
-    ensures { OnOk result (AddsRange D.state D.honest J.name.shape.block_size offset count list.old.items list.new.items) }
+    ensures reads { OnOk result (ReadsRange D.state D.honest J.name.shape.block_size offset into.new) }
+    ensures length { length into.new ≡ length into.old }
 {
-    if offset.checked_add(count as u64).is_none() {
+    if offset.checked_add(into.len() as u64).is_none() {
         return Err(JournalError::BadBlock);
     }
     let mut room = vec![in alloc; 0u8; session.block_size()]?;
-    read_all(rt, session, room.as_mut_slice(), offset, count, list)
+    read_all(rt, session, room.as_mut_slice(), offset, into)
 }
 
 /// As `read_range`, with a buffer of one block.
-#[tactic(auto, using(crate::proofs::Ranges::no_byte, crate::proofs::Ranges::further))]
 fn read_all<J: JournalName, D: Device, R: Record, G: Gate, W: Wait>(
     rt: &W,
     session: &Session<'_, J, D, R, G>,
     room: &mut [u8],
     offset: u64,
-    count: usize,
-    list: &mut Vec<u8>,
+    into: &mut [u8],
 ) -> Result<(), JournalError>
     requires room { length room.old ≡ J.name.shape.block_size }
-    requires fits { offset + count < 2 ^ 64 }
-    ensures { OnOk result (AddsRange D.state D.honest J.name.shape.block_size offset count list.old.items list.new.items) }
+    requires fits { offset + length into.old < 2 ^ 64 }
+    ensures reads { OnOk result (ReadsRange D.state D.honest J.name.shape.block_size offset into.new) }
+    ensures length { length into.new ≡ length into.old }
 {
     let mut done = 0;
-    while done < count {
+    while done < into.len() {
         let at = offset + done as u64;
-        done += read_on(rt, session, room, at, count - done, list)?;
+        done += read_on(rt, session, room, at, &mut into[done..])?;
     }
     Ok(())
 }

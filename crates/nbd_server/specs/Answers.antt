@@ -1,9 +1,9 @@
 -- What requests of a client do, and their answers.
-use Rattle.std.specs.Prelude.{◌≡◌, ◌≢◌, ◌≤◌, ◌<◌, ◌*◌, ℕ, List, Bool, true, false, length, replicate}
+use Rattle.std.specs.Prelude.{◌≡◌, ◌≢◌, ◌≤◌, ◌<◌, ◌*◌, ◌++◌, ℕ, List, Bool, true, false, length, replicate}
 use Rattle.block_device.specs.State.{DeviceState}
 use Rattle.journal_model.specs.Disk.{Shape}
 use Rattle.shared_journal.specs.Moments.{WasLastJoinedThen}
-use Rattle.byte_volume.specs.Reading.{AddsRange}
+use Rattle.byte_volume.specs.Reading.{ReadsRange}
 use Rattle.byte_volume.specs.Writing.{RevokesBlocks, WritesAll, first_whole, whole_blocks}
 use Rattle.nbd_protocol.specs.declared.request.Request.{Request}
 use Rattle.nbd_protocol.specs.Layout.{simple_reply}
@@ -37,6 +37,13 @@ pub record IsDone {D : Type 0} (state : D → DeviceState) (honest : D → Type 
   pub zeroed : r.command ≡ 6 → 0 < r.length → WritesAll state honest size capacity r.offset (replicate r.length 0) upto
   pub trimmed : r.command ≡ 4 → 0 < r.length → RevokesBlocks (first_whole size r.offset) upto (whole_blocks size r.offset r.length)
 
+-- the answer to a read: success, then the bytes of its range
+pub record AnswersRead {D : Type 0} (state : D → DeviceState) (honest : D → Type 0) (size : ℕ) (r : Request) (reply : List ℕ) : Type 0 where
+  pub bytes : List ℕ
+  pub range : ReadsRange state honest size r.offset bytes
+  pub count : length bytes ≡ r.length
+  pub reply_is : reply ≡ simple_reply 0 r.cookie ++ bytes
+
 -- a volume of this shape takes it, with at most the bytes that the volume has
 pub record IsTakenBy (shape : Shape) (read_only : Bool) (r : Request) : Type 0 where
   pub bytes : ℕ
@@ -47,7 +54,7 @@ pub record IsTakenBy (shape : Shape) (read_only : Bool) (r : Request) : Type 0 w
 -- refusal; a read's bytes; success of a change that wants no commit; or, for one that does, owed
 pub data IsPerformed {D : Type 0} (state : D → DeviceState) (honest : D → Type 0) (size capacity : ℕ) (r : Request) (bytes : List ℕ) (upto : ℕ) (a : Answer) : Type 0 where
   AsRefusal : (e : ℕ) → e ≢ 0 → a ≡ Now (simple_reply e r.cookie) → IsPerformed state honest size capacity r bytes upto a
-  AsRead : (reply : List ℕ) → r.command ≡ 0 → AddsRange state honest size r.offset r.length (simple_reply 0 r.cookie) reply → a ≡ Bytes reply →
+  AsRead : (reply : List ℕ) → r.command ≡ 0 → AnswersRead state honest size r reply → a ≡ Bytes reply →
       IsPerformed state honest size capacity r bytes upto a
   AsDone : r.command ≢ 0 → IsDone state honest size capacity r bytes upto → (WantsCommit r → ⊥) → a ≡ Now (simple_reply 0 r.cookie) →
       IsPerformed state honest size capacity r bytes upto a

@@ -1,18 +1,18 @@
 //! Decides how a request is answered, and performs it.
 ghost use Rattle.std.specs.Prelude.{◌≡◌, ◌≢◌, ◌≤◌, ◌*◌, length, IfErr, IfOk, OnOk};
-ghost use Rattle.byte_volume.specs.Reading.{AddsRange};
 ghost use Rattle.nbd_protocol.specs.Layout.{simple_reply};
 ghost use Rattle.nbd_protocol.specs.Requests.{IsTaken};
-ghost use Rattle.nbd_server.specs.Answers.{IsAnswered, IsDone, IsPerformed, IsTakenBy};
+ghost use Rattle.nbd_server.specs.Answers.{AnswersRead, IsAnswered, IsDone, IsPerformed, IsTakenBy};
 ghost use Rattle.nbd_server.specs.declared.replies.Answer.TheVariants.{Now};
 
+use crate::buffers::Buffers;
 use crate::handshake::skip;
 use crate::replies::{Answer, Due, ReadReply, Reply, error_of};
 use block_device::Device;
 use byte_volume::{Stopped, read_range, trim_range, write_range, write_zeros};
 use journal_model::JournalError;
-use nbd_protocol::Request;
 use nbd_protocol::numbers::{ENOMEM, READ, TRIM, WRITE, WRITE_ZEROES};
+use nbd_protocol::{REPLY_BYTES, Request};
 use shared_journal::{JournalName, Record};
 use std::alloc::Global;
 use std::io;
@@ -31,8 +31,8 @@ pub(crate) fn volume_bytes<J: JournalName, D: Device, R: Record>(
         .saturating_mul(session.block_size() as u64)
 }
 
-/// Answers a request. A write's bytes come next in the input, and are read whole into `room` before a handle starts; what was there is
-/// lost, and the memory stays. For a refused request no handle starts, and its bytes are skipped.
+/// Answers a request. A write's bytes come next in the input, and are read whole into a buffer before a handle starts. For a refused
+/// request no handle starts, and its bytes are skipped.
 ///
 /// # Errors
 ///
@@ -44,7 +44,7 @@ pub fn answer<J: JournalName, D: Device, R: Record, I: Read, W: Wait>(
     read_only: bool,
     stopped: &mut Stopped,
     input: &mut I,
-    room: &mut Vec<u8>,
+    buffers: &mut Buffers,
     request: &Request,
 ) -> io::Result<Answer>
     ensures answered { IfOk result (λ answer. IsAnswered D.state D.honest J.name.shape J.name.capacity read_only request.now stopped.new (session.new ≡ session.old) answer) }
@@ -55,14 +55,16 @@ pub fn answer<J: JournalName, D: Device, R: Record, I: Read, W: Wait>(
         return refuse(input, request, error);
     }
     if request.command == WRITE {
-        if room.resize(request.length as usize, 0).is_err() {
+        if buffers.written.resize(request.length as usize, 0).is_err() {
             return refuse(input, request, ENOMEM);
         }
-        input.read_exact(room.as_mut_slice())?;
-        let bytes = room.as_slice();
-        return Ok(perform(rt, alloc, session, stopped, request, bytes));
+        input.read_exact(buffers.written.as_mut_slice())?;
+        let bytes = buffers.written.as_slice();
+        let room = &mut buffers.read;
+        return Ok(perform(rt, alloc, session, stopped, request, bytes, room));
     }
-    Ok(perform(rt, alloc, session, stopped, request, &[]))
+    let room = &mut buffers.read;
+    Ok(perform(rt, alloc, session, stopped, request, &[], room))
 }
 
 /// The answer with this error to a request, whose bytes are skipped.
@@ -77,7 +79,7 @@ fn refuse<I: Read>(input: &mut I, request: &Request, error: u32) -> io::Result<A
 }
 
 /// Performs a request that the volume takes, with the bytes after it. The answer to a request that wants a commit is owed until all
-/// transactions of handles stopped by now are committed.
+/// transactions of handles stopped by now are committed. A long read uses the memory of `room`.
 pub fn perform<J: JournalName, D: Device, R: Record, W: Wait>(
     rt: &W,
     alloc: Global,
@@ -85,12 +87,13 @@ pub fn perform<J: JournalName, D: Device, R: Record, W: Wait>(
     stopped: &mut Stopped,
     request: &Request,
     bytes: &[u8],
+    room: &mut Vec<u8>,
 ) -> Answer
     ensures performed { IsPerformed D.state D.honest J.name.shape.block_size J.name.capacity request.now bytes.now stopped.new result }
     ensures kept { stopped.old ≤ stopped.new }
 {
     if request.command == READ {
-        return match read_reply(rt, alloc, session, request) {
+        return match read_reply(rt, alloc, session, request, room) {
             Ok(reply) => Answer::Bytes(reply),
             Err(e) => Answer::Now(Reply::at_once(request, error_of(e))),
         };
@@ -106,7 +109,7 @@ pub fn perform<J: JournalName, D: Device, R: Record, W: Wait>(
     }
 }
 
-/// Answers a read with the newest bytes of each block.
+/// Answers a read with the newest bytes of each block. A long answer uses the memory of `room`.
 ///
 /// # Errors
 ///
@@ -116,13 +119,19 @@ pub fn read_reply<J: JournalName, D: Device, R: Record, W: Wait>(
     alloc: Global,
     session: &Session<'_, J, D, R>,
     request: &Request,
+    room: &mut Vec<u8>,
 ) -> Result<ReadReply, JournalError>
     requires read { request.now.command ≡ 0 }
-    ensures { IfOk result (λ reply. AddsRange D.state D.honest J.name.shape.block_size request.now.offset request.now.length (simple_reply 0 request.now.cookie) reply) }
+    ensures { IfOk result (AnswersRead D.state D.honest J.name.shape.block_size request.now) }
 {
-    let mut bytes = ReadReply::head(alloc, request)?;
-    let count = request.length as usize;
-    read_range(rt, alloc, session, request.offset, count, &mut bytes)?;
+    let mut bytes = ReadReply::begin(alloc, request, room)?;
+    read_range(
+        rt,
+        alloc,
+        session,
+        request.offset,
+        &mut bytes[REPLY_BYTES..],
+    )?;
     Ok(ReadReply::of(bytes))
 }
 

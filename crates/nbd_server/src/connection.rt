@@ -1,13 +1,14 @@
 //! Reads requests in a task. Answers those that want no commit, or hands the answers on.
 use crate::answering::{answer, volume_bytes};
+use crate::buffers::Buffers;
 use crate::done::Done;
 use crate::export::{Export, Volume};
 use crate::handshake::begin;
-use crate::replies::{Answer, Due, Output};
+use crate::replies::{Answer, Due, LONG_BYTES, Output};
 use block_device::Device;
 use byte_volume::Stopped;
 use crossbeam_channel::Sender;
-use nbd_protocol::numbers::DISCONNECT;
+use nbd_protocol::numbers::{DISCONNECT, READ};
 use nbd_protocol::{REQUEST_BYTES, Request};
 use shared_journal::{JournalName, Record};
 use std::alloc::Global;
@@ -58,16 +59,19 @@ impl<I: Read + Drop, O: Write + Drop> Connection<'_, I, O> {
         if !self.shake_hands(rt, session)? {
             return Ok(());
         }
-        let mut room = Vec::new(self.alloc);
+        let mut buffers = Buffers::new(self.alloc);
         for _ in rt.forever() {
             let Some(request) = next_request(&mut self.input)? else {
                 return Ok(());
             };
             *requests = requests.saturating_add(1);
             let (alloc, read_only) = (self.alloc, self.export.read_only);
-            let (input, room) = (&mut self.input, &mut room);
+            if is_long_read(&request) {
+                self.out.lend(rt, &mut buffers.read);
+            }
+            let (input, buffers) = (&mut self.input, &mut buffers);
             let given = answer(
-                rt, alloc, session, read_only, stopped, input, room, &request,
+                rt, alloc, session, read_only, stopped, input, buffers, &request,
             )?;
             self.give(rt, given)?;
         }
@@ -112,6 +116,11 @@ fn hand_on<T: Drop, W: Wait>(rt: &W, to: &Sender<T>, answer: T) -> io::Result<()
         Ok(()) => Ok(()),
         Err(_) => Err(io::Error::from(ErrorKind::BrokenPipe)),
     }
+}
+
+/// Whether a request wants so many bytes that its answer is long.
+fn is_long_read(request: &Request) -> bool {
+    request.command == READ && request.length as usize >= LONG_BYTES
 }
 
 /// The next request; `None` if the client ended before it.

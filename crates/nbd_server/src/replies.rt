@@ -1,5 +1,5 @@
 //! Answers to requests, when each may be given, and the one output.
-ghost use Rattle.std.specs.Prelude.{◌≡◌, ◌≢◌, ◌≤◌, IfOk, IfSome};
+ghost use Rattle.std.specs.Prelude.{◌≡◌, ◌≢◌, ◌≤◌, ◌+◌, length, take, IfOk, IfSome};
 ghost use Rattle.nbd_protocol.specs.Layout.{simple_reply};
 ghost use Rattle.nbd_protocol.specs.Requests.{WantsCommit};
 ghost use Rattle.nbd_server.specs.Answers.{IsOwedTo};
@@ -14,14 +14,14 @@ use nbd_protocol::numbers::{EINVAL, EIO, ENOMEM};
 use nbd_protocol::{REPLY_BYTES, Request, write_reply};
 use shared_journal::{JournalName, Record};
 use std::alloc::{AllocError, Global};
-use std::io;
 use std::io::{Read, Write};
 use std::marker::Model;
 use std::sync::{Mutex, Wait};
+use std::{io, mem};
 use volume_service::Session;
 
 /// An answer with this many bytes is long.
-const LONG_BYTES: usize = 65_536;
+pub(crate) const LONG_BYTES: usize = 65_536;
 
 /// An owed answer to a flush, or to a change with `FUA` that was made: it may come once all transactions up to a number are committed.
 #[derive(Debug, Drop)]
@@ -123,6 +123,18 @@ impl Reply {
     }
 }
 
+/// As many bytes as wanted; many are those of `room`, if it has as many.
+fn take_room(alloc: Global, wanted: usize, room: &mut Vec<u8>) -> Result<Vec<u8>, AllocError>
+    ensures { IfOk result (λ bytes. length bytes.items ≡ wanted) }
+{
+    if wanted < LONG_BYTES || room.len() < wanted {
+        return vec![in alloc; 0u8; wanted];
+    }
+    let mut bytes = mem::replace(room, Vec::new(alloc));
+    bytes.truncate(wanted);
+    Ok(bytes)
+}
+
 /// A read's success, with its bytes.
 #[derive(Debug, Drop)]
 pub struct ReadReply {
@@ -138,15 +150,19 @@ impl Model for ReadReply {
 }
 
 impl ReadReply {
-    /// The answer's header, without the read bytes.
-    pub(crate) fn head(alloc: Global, request: &Request) -> Result<Vec<u8>, AllocError>
+    /// The answer's header, with room for the bytes after it. A long one takes the memory of `room`.
+    pub(crate) fn begin(
+        alloc: Global,
+        request: &Request,
+        room: &mut Vec<u8>,
+    ) -> Result<Vec<u8>, AllocError>
         requires read { request.now.command ≡ 0 }
-        ensures { IfOk result (λ head. head.items ≡ simple_reply 0 request.now.cookie) }
+        ensures length { IfOk result (λ bytes. length bytes.items ≡ 16 + request.now.length) }
+        ensures head { IfOk result (λ bytes. take 16 bytes.items ≡ simple_reply 0 request.now.cookie) }
     {
-        let head = Reply::new(0, request.cookie);
-        let room = (request.length as usize).saturating_add(REPLY_BYTES);
-        let mut bytes = Vec::with_capacity(alloc, room)?;
-        bytes.extend_from_slice(&head.bytes)?;
+        let length = REPLY_BYTES + request.length as usize;
+        let mut bytes = take_room(alloc, length, room)?;
+        write_reply(&mut bytes, 0, request.cookie);
         Ok(bytes)
     }
 
@@ -154,6 +170,17 @@ impl ReadReply {
         ensures { result ≡ bytes.items }
     {
         ReadReply { bytes }
+    }
+
+    /// The memory of an answer that was given.
+    pub(crate) fn into_room(self) -> Vec<u8> {
+        let ReadReply { bytes } = self;
+        bytes
+    }
+
+    /// Whether it has so many bytes that another task is to send it.
+    fn is_long(&self) -> bool {
+        self.bytes.len() >= LONG_BYTES
     }
 }
 
@@ -171,7 +198,7 @@ impl Answer {
     /// Whether it has so many bytes that another task is to send it.
     pub(crate) fn is_long(&self) -> bool {
         match self {
-            Answer::Bytes(reply) => reply.bytes.len() >= LONG_BYTES,
+            Answer::Bytes(reply) => reply.is_long(),
             _ => false,
         }
     }
@@ -181,17 +208,20 @@ impl Answer {
 #[derive(Drop)]
 pub struct Output<O: Write + Drop> {
     out: Mutex<O>,
+    /// The last long answer that was given: the next takes its memory.
+    given: Mutex<Option<ReadReply>>,
 }
 
 impl<O: Write + Drop> Output<O> {
     pub fn new(out: O) -> Self {
         Output {
             out: Mutex::new(out),
+            given: Mutex::new(None),
         }
     }
 
     pub fn into_inner(self) -> O {
-        let Output { out } = self;
+        let Output { out, given: _ } = self;
         out.into_inner()
     }
 
@@ -213,10 +243,27 @@ impl<O: Write + Drop> Output<O> {
     {
         match answer {
             Answer::Now(reply) => self.send(rt, &reply.bytes)?,
-            Answer::Bytes(reply) => self.send(rt, &reply.bytes)?,
+            Answer::Bytes(reply) => {
+                self.send(rt, &reply.bytes)?;
+                self.keep(rt, reply);
+            }
             Answer::Later(due) => return Ok(Some(due)),
         }
         Ok(None)
+    }
+
+    /// Keeps the memory of a long answer that was given.
+    fn keep<W: Wait>(&self, rt: &W, reply: ReadReply) {
+        if reply.is_long() {
+            *self.given.lock(rt) = Some(reply);
+        }
+    }
+
+    /// Lets a buffer have the memory of the last long answer that was given, if it is not in use again.
+    pub(crate) fn lend<W: Wait>(&self, rt: &W, room: &mut Vec<u8>) {
+        if let Some(reply) = self.given.lock(rt).take() {
+            *room = reply.into_room();
+        }
     }
 
     /// Writes bytes whole.

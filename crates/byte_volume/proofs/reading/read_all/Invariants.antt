@@ -1,17 +1,18 @@
-use Rattle.std.proofs.Common.{◌≡◌, ◌≤◌, ◌-◌, length}
-use Rattle.byte_volume.specs.Reading.{AddsRange}
+use Rattle.std.proofs.Common.{◌≡◌, ◌≤◌, ◌-◌, length, take}
+use Rattle.byte_volume.specs.Reading.{ReadsRange}
 use Rattle.byte_volume.proofs.reading.read_all.Given as goal
 
--- the list ends with this many bytes of the range
+-- the buffer begins with this many bytes of the range
 abbrev pub invariant-loop-done : goal.invariant-loop-done
 invariant-loop-done g l =
     let size = g.J.JournalName.name.shape.block_size in
     record {
-      within : l.done ≤ l.count;
+      within : l.done ≤ length l.into;
+      same : length l.into ≡ length l.fn.into;
       room : length l.room ≡ size;
-      adds : AddsRange g.D.Device.state g.D.Device.honest size l.offset l.done l.fn.list.items l.list.items;
+      reads : ReadsRange g.D.Device.state g.D.Device.honest size l.offset (take l.done l.into);
     }
 
 -- fewer bytes are left
 abbrev pub decreases-loop-done : goal.decreases-loop-done
-decreases-loop-done g l = l.count - l.done
+decreases-loop-done g l = length l.into - l.done
