@@ -1,6 +1,7 @@
 -- What a read of a byte range gives.
-use Rattle.std.specs.Prelude.{◌≡◌, ◌≤◌, ◌+◌, ◌/◌, ◌%◌, ◌++◌, ℕ, List, [], length, take, drop, replicate}
-use Rattle.journal_model.specs.declared.refusal.JournalError.TheVariants.{Revoked}
+use Rattle.std.specs.Prelude.{◌≡◌, ◌^◌, ◌≤◌, ◌+◌, ◌/◌, ◌%◌, ◌++◌, ℕ, List, [], length, take, drop, replicate}
+use Rattle.journal_model.specs.declared.refusal.JournalError.{JournalError}
+use Rattle.journal_model.specs.declared.refusal.JournalError.TheVariants.{BadBlock, Memory, Revoked}
 use Rattle.block_device.specs.State.{DeviceState}
 use Rattle.journal_steps.specs.Journal.{NewestRefused, ReadsNewest}
 use Rattle.journal_steps.specs.Values.{JournalValue}
@@ -31,3 +32,13 @@ pub data ReadsRange {D : Type 0} (state : D → DeviceState) (honest : D → Typ
   Further : (before part bytes : List ℕ) → ReadsRange state honest size offset before →
       ReadsPart state honest size ((offset + length before) / size) ((offset + length before) % size) (length part) part →
       bytes ≡ before ++ part → ReadsRange state honest size offset bytes
+
+-- a read of the block's newest bytes was refused at one moment under the lock
+abbrev pub BlockRefused : {D : Type 0} → (D → DeviceState) → ℕ → JournalError → Type 0
+BlockRefused {D} state b e = AtOneMoment (λ (old new : JournalValue D). NewestRefused state old b new e)
+
+-- why a read of n bytes is refused: the range ends past 2^64, there is no buffer, or the read of a block was refused
+pub data RangeRefused {D : Type 0} (state : D → DeviceState) (offset n : ℕ) (e : JournalError) : Type 0 where
+  PastEnd : 2 ^ 64 ≤ offset + n → e ≡ BadBlock → RangeRefused state offset n e
+  NoBuffer : e ≡ Memory → RangeRefused state offset n e
+  OfBlock : (b : ℕ) → BlockRefused state b e → RangeRefused state offset n e

@@ -1,6 +1,6 @@
 //! Reads byte ranges, block by block, with the newest bytes.
-ghost use Rattle.std.specs.Prelude.{◌≡◌, ◌≤◌, ◌<◌, ◌+◌, ◌/◌, ◌%◌, ◌^◌, length, take, IfOk, OnOk};
-ghost use Rattle.byte_volume.specs.Reading.{AddsPart, ReadsBlock, ReadsPart, ReadsRange};
+ghost use Rattle.std.specs.Prelude.{◌≡◌, ◌≤◌, ◌<◌, ◌+◌, ◌/◌, ◌%◌, ◌^◌, length, take, IfErr, IfOk, OnOk};
+ghost use Rattle.byte_volume.specs.Reading.{AddsPart, BlockRefused, RangeRefused, ReadsBlock, ReadsPart, ReadsRange};
 
 use block_device::Device;
 use journal_model::{BlockNo, JournalError};
@@ -19,6 +19,7 @@ fn read_block<J: JournalName, D: Device, R: Record, G: Gate, W: Wait>(
 ) -> Result<(), JournalError>
     requires { length into.old ≡ J.name.shape.block_size }
     ensures reads { OnOk result (ReadsBlock D.state D.honest block into.new) }
+    ensures err { IfErr result (BlockRefused D.state block) }
     ensures length { length into.new ≡ length into.old }
 {
     match session.read_newest(rt, BlockNo(block), into) {
@@ -65,6 +66,7 @@ fn read_on<J: JournalName, D: Device, R: Record, G: Gate, W: Wait>(
     ensures some { IfOk result (λ n. (0 < n) × (n ≤ length into.old)) }
     ensures part { IfOk result (λ n. ReadsPart D.state D.honest J.name.shape.block_size (at / J.name.shape.block_size) (at % J.name.shape.block_size) n (take n into.new)) }
     ensures length { (length into.new ≡ length into.old) × (length room.new ≡ length room.old) }
+    ensures err { IfErr result (BlockRefused D.state (at / J.name.shape.block_size)) }
 {
     let size = session.block_size();
     let (block, from) = (at / size as u64, (at % size as u64) as usize);
@@ -93,6 +95,7 @@ pub fn read_range<J: JournalName, D: Device, R: Record, G: Gate, W: Wait>(
 ) -> Result<(), JournalError>
     ensures reads { OnOk result (ReadsRange D.state D.honest J.name.shape.block_size offset into.new) }
     ensures length { length into.new ≡ length into.old }
+    ensures err { IfErr result (RangeRefused D.state offset (length into.old)) }
 {
     if offset.checked_add(into.len() as u64).is_none() {
         return Err(JournalError::BadBlock);
@@ -113,6 +116,7 @@ fn read_all<J: JournalName, D: Device, R: Record, G: Gate, W: Wait>(
     requires fits { offset + length into.old < 2 ^ 64 }
     ensures reads { OnOk result (ReadsRange D.state D.honest J.name.shape.block_size offset into.new) }
     ensures length { length into.new ≡ length into.old }
+    ensures err { IfErr result (RangeRefused D.state offset (length into.old)) }
 {
     let mut done = 0;
     while done < into.len() {

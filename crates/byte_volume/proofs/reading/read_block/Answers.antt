@@ -1,4 +1,4 @@
-use Rattle.byte_volume.proofs.Blocks.{zeros}
+use Rattle.byte_volume.proofs.Blocks.{refused, zeros}
 use Rattle.byte_volume.proofs.reading.read_block.Goals as goal
 
 -- the block was revoked
@@ -6,3 +6,7 @@ pub returns-in-Err-Revoked-clause-reads : goal.returns-in-Err-Revoked-clause-rea
 returns-in-Err-Revoked-clause-reads g c =
     zeros g.D.Device.state g.D.Device.honest _ c.args.block _ _ c.in-Err-Revoked.field-0 c.fill.new.self c.requires c.in-Err-Revoked.field-0-is
     c.in-Err-Revoked.ensures.why (c.fill.ensures.after (λ y is. is)) c.fill.ensures.len
+
+-- the read was refused
+pub returns-in-Err : goal.returns-in-Err
+returns-in-Err g c = record { reads = tt; err = refused g.D.Device.state _ c.args.block _ c.in-Err.e c.requires c.in-Err.ensures.why; length = c.in-Err.ensures.length }
