@@ -1,4 +1,4 @@
--- A block with an unfinished revoke reads as zeros.
+-- A block with an unfinished revoke reads as zeros. Other refusals of a block's bytes are the journal's.
 use Rattle.std.proofs.Common.{◌≡◌, sym, subst, ℕ, List, length, replicate}
 use Rattle.journal_model.specs.declared.refusal.JournalError.{JournalError}
 use Rattle.journal_model.specs.declared.refusal.JournalError.TheVariants.{Revoked}
@@ -8,7 +8,7 @@ use Rattle.journal_steps.specs.Values.{JournalValue}
 use Rattle.shared_journal.specs.Moments.{AtOneMoment}
 use Rattle.volume_service.specs.Session.{RefusedBytes}
 use Rattle.volume_service.specs.Session.RefusedBytes.{ByJournal, NoBlockOfBytes}
-use Rattle.byte_volume.specs.Reading.{BlockRefused, ReadsBlock}
+use Rattle.byte_volume.specs.Reading.{ReadsBlock}
 use Rattle.byte_volume.specs.Reading.ReadsBlock.{Zeros}
 
 -- a read was refused for a revoke; then the buffer of one block was filled with zeros
@@ -20,8 +20,7 @@ zeros {D} state honest size b n m e v whole is (ByJournal same why) filled count
     Zeros (subst (λ (f : JournalError). AtOneMoment (λ (old new : JournalValue D). NewestRefused state old b new f)) is why)
     (subst (λ (k : ℕ). v ≡ replicate k 0) (sym count) filled)
 
--- a read into a buffer of one block was refused
-pub refused : {D : Type 0} (state : D → DeviceState) (size b n : ℕ) (e : JournalError) → n ≡ size →
-    RefusedBytes n size e (AtOneMoment (λ (old new : JournalValue D). NewestRefused state old b new e)) → BlockRefused {D = D} state b e
-refused state size b n e whole (NoBlockOfBytes wrong bad) = absurd (wrong whole)
-refused state size b n e whole (ByJournal same why) = why
+-- a call with one block of bytes was refused: by the journal
+pub by_journal : {why : Type 0} (size n : ℕ) (e : JournalError) → n ≡ size → RefusedBytes n size e why → why
+by_journal size n e whole (NoBlockOfBytes wrong bad) = absurd (wrong whole)
+by_journal size n e whole (ByJournal same why) = why

@@ -2,4 +2,6 @@ pub mod Blocks
 pub mod Overlays
 pub mod Pieces
 pub mod Ranges
+pub mod Refusals
 pub mod Revokes
+pub mod WholeBlocks

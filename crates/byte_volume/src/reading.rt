@@ -1,6 +1,7 @@
 //! Reads byte ranges, block by block, with the newest bytes.
 ghost use Rattle.std.specs.Prelude.{◌≡◌, ◌≤◌, ◌<◌, ◌+◌, ◌/◌, ◌%◌, ◌^◌, length, take, IfErr, IfOk, OnOk};
 ghost use Rattle.byte_volume.specs.Reading.{AddsPart, BlockRefused, RangeRefused, ReadsBlock, ReadsPart, ReadsRange};
+ghost use Rattle.byte_volume.specs.Refusals.{PartRefused};
 
 use block_device::Device;
 use journal_model::{BlockNo, JournalError};
@@ -46,6 +47,7 @@ pub(crate) fn read_part<J: JournalName, D: Device, R: Record, G: Gate, W: Wait>(
     requires fits { from + count ≤ J.name.shape.block_size }
     ensures adds { OnOk result (AddsPart D.state D.honest J.name.shape.block_size block from count list.old.items list.new.items) }
     ensures length { length room.new ≡ length room.old }
+    ensures err { IfErr result (PartRefused D.state block) }
 {
     read_block(rt, session, block, room)?;
     list.extend_from_slice(&room[from..from + count])?;

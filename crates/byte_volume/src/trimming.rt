@@ -1,5 +1,6 @@
 //! Revokes the whole blocks of a byte range.
-ghost use Rattle.std.specs.Prelude.{◌≡◌, ◌≤◌, ◌<◌, ◌+◌, ◌^◌, ◌++◌, IfOk, OnOk};
+ghost use Rattle.std.specs.Prelude.{◌≡◌, ◌≤◌, ◌<◌, ◌+◌, ◌^◌, ◌++◌, IfErr, IfOk, OnOk};
+ghost use Rattle.byte_volume.specs.Refusals.{HandleRefused, IsAmong, RevokeRefused, StepRefused, TrimRefused};
 ghost use Rattle.byte_volume.specs.Writing.{RevokesBlocks, first_whole, revoke_steps, whole_blocks};
 
 use crate::stopped::Stopped;
@@ -25,6 +26,7 @@ pub fn trim_range<J: JournalName, D: Device, R: Record, G: Gate, W: Wait>(
 ) -> Result<(), JournalError>
     ensures blocks { OnOk result (RevokesBlocks (first_whole J.name.shape.block_size offset) stopped.new (whole_blocks J.name.shape.block_size offset count)) }
     ensures kept { stopped.old ≤ stopped.new }
+    ensures err { IfErr result (TrimRefused D J.name.shape.block_size J.name.capacity offset count) }
 {
     let Some(end) = offset.checked_add(count) else {
         return Err(JournalError::BadBlock);
@@ -52,6 +54,7 @@ fn revoke_pieces<J: JournalName, D: Device, R: Record, G: Gate, W: Wait>(
     requires fits { first + blocks < 2 ^ 64 }
     ensures blocks { OnOk result (RevokesBlocks first stopped.new blocks) }
     ensures kept { stopped.old ≤ stopped.new }
+    ensures err { IfErr result (HandleRefused D J.name.capacity (IsAmong first blocks)) }
 {
     let mut done = 0;
     while done < blocks {
@@ -78,6 +81,7 @@ pub fn revoke_blocks<J: JournalName, D: Device, R: Record, G: Gate, W: Wait>(
     ensures steps { IfOk result (λ ticket. ticket.steps ≡ revoke_steps ticket.ticket.handle first count) }
     ensures noted { IfOk result (λ ticket. ticket.ticket.tid ≤ stopped.new) }
     ensures kept { stopped.old ≤ stopped.new }
+    ensures err { IfErr result (RevokeRefused D J.name.capacity first count) }
 {
     if first.checked_add(count).is_none() {
         return Err(JournalError::BadBlock);
@@ -101,8 +105,10 @@ fn revoke_all<'s, J: JournalName, D: Device, R: Record, G: Gate, W: Wait>(
     count: u64,
 ) -> Result<(), JournalError>
     requires fits { first + count < 2 ^ 64 }
+    requires credits { count ≤ handle.old.handle.left }
     ensures number { OnOk result (handle.new.handle.number ≡ handle.old.handle.number) }
     ensures steps { OnOk result (handle.new.steps ≡ handle.old.steps ++ revoke_steps handle.old.handle.number first count) }
+    ensures err { IfErr result (StepRefused D (IsAmong first count)) }
 {
     for k in 0..count {
         session.revoke(rt, handle, BlockNo(first + k))?;

@@ -1,5 +1,6 @@
 //! Cuts a write of a byte range into handles, and keeps the rest of its first and last block.
-ghost use Rattle.std.specs.Prelude.{◌≡◌, ◌≤◌, ◌<◌, ◌+◌, ◌/◌, ◌%◌, ◌^◌, ◌++◌, true, false, length, replicate, IfOk, OnOk};
+ghost use Rattle.std.specs.Prelude.{◌≡◌, ◌≤◌, ◌<◌, ◌+◌, ◌*◌, ◌/◌, ◌%◌, ◌^◌, ◌++◌, true, false, length, replicate, IfErr, IfOk, OnOk};
+ghost use Rattle.byte_volume.specs.Refusals.{CutRefused, HandleRefused, IsAmong, StepRefused, WriteRefused};
 ghost use Rattle.byte_volume.specs.Writing.{AddsHead, AddsTail, IsOverlay, LieWithin, WritesAll, WritesOnce, WritesPieces, WritesRange, write_steps};
 
 use crate::reading::read_part;
@@ -32,6 +33,7 @@ pub fn write_range<J: JournalName, D: Device, R: Record, G: Gate, W: Wait>(
 ) -> Result<(), JournalError>
     ensures once { OnOk result (WritesAll D.state D.honest J.name.shape.block_size J.name.capacity offset bytes.now stopped.new) }
     ensures kept { stopped.old ≤ stopped.new }
+    ensures err { IfErr result (WriteRefused D.state J.name.shape.block_size J.name.capacity offset (length bytes.now)) }
 {
     if offset.checked_add(bytes.len() as u64).is_none() {
         return Err(JournalError::BadBlock);
@@ -49,11 +51,12 @@ pub fn write_range<J: JournalName, D: Device, R: Record, G: Gate, W: Wait>(
     Ok(())
 }
 
-/// False only if these bytes lie in more blocks.
+/// Whether these bytes lie in at most this many blocks.
 fn lie_within(size: usize, offset: u64, count: usize, blocks: u64) -> bool
     requires some { 0 < size }
     requires fits { offset + count < 2 ^ 64 }
-    ensures { result ≡ false → LieWithin size offset count blocks → ⊥ }
+    ensures within { result ≡ true → LieWithin size offset count blocks }
+    ensures more { result ≡ false → LieWithin size offset count blocks → ⊥ }
 {
     let end = offset + count as u64;
     let (first, past) = (offset / size as u64, end.div_ceil(size as u64));
@@ -61,10 +64,6 @@ fn lie_within(size: usize, offset: u64, count: usize, blocks: u64) -> bool
 }
 
 /// Writes a byte range through one handle.
-///
-/// # Errors
-///
-/// Those of `write_range`; `TooMany`: the range needs more credits than one handle can have.
 fn write_once<J: JournalName, D: Device, R: Record, G: Gate, W: Wait>(
     rt: &W,
     alloc: Global,
@@ -73,14 +72,15 @@ fn write_once<J: JournalName, D: Device, R: Record, G: Gate, W: Wait>(
     bytes: &[u8],
     stopped: &mut Stopped,
 ) -> Result<SharedTicket<J, R>, JournalError>
+    requires fits { offset + length bytes.now < 2 ^ 64 }
+    requires credits { LieWithin J.name.shape.block_size offset (length bytes.now) J.name.capacity }
     ensures once { IfOk result (λ ticket. WritesRange D.state D.honest J.name.shape.block_size offset bytes.now ticket) }
     ensures noted { IfOk result (λ ticket. ticket.ticket.tid ≤ stopped.new) }
     ensures kept { stopped.old ≤ stopped.new }
+    ensures err { IfErr result (WriteRefused D.state J.name.shape.block_size J.name.capacity offset (length bytes.now)) }
 {
     let size = session.block_size() as u64;
-    let Some(end) = offset.checked_add(bytes.len() as u64) else {
-        return Err(JournalError::BadBlock);
-    };
+    let end = offset + bytes.len() as u64;
     if offset % size == 0 && end % size == 0 {
         return write_blocks(rt, session, offset / size, bytes, stopped);
     }
@@ -96,8 +96,10 @@ fn overlay<J: JournalName, D: Device, R: Record, G: Gate, W: Wait>(
     offset: u64,
     bytes: &[u8],
 ) -> Result<Vec<u8>, JournalError>
+    requires size { 0 < J.name.shape.block_size }
     requires fits { offset + length bytes.now < 2 ^ 64 }
-    ensures { IfOk result (λ whole. IsOverlay D.state D.honest J.name.shape.block_size offset bytes.now whole.items) }
+    ensures overlay { IfOk result (λ whole. IsOverlay D.state D.honest J.name.shape.block_size offset bytes.now whole.items) }
+    ensures err { IfErr result (WriteRefused D.state J.name.shape.block_size J.name.capacity offset (length bytes.now)) }
 {
     let mut whole = Vec::new(alloc);
     add_head(rt, alloc, session, offset, &mut whole)?;
@@ -115,7 +117,8 @@ fn add_head<J: JournalName, D: Device, R: Record, G: Gate, W: Wait>(
     at: u64,
     list: &mut Vec<u8>,
 ) -> Result<(), JournalError>
-    ensures { OnOk result (AddsHead D.state D.honest J.name.shape.block_size at list.old.items list.new.items) }
+    ensures adds { OnOk result (AddsHead D.state D.honest J.name.shape.block_size at list.old.items list.new.items) }
+    ensures err { IfErr result (CutRefused D.state J.name.shape.block_size at) }
 {
     let size = session.block_size();
     let from = (at % size as u64) as usize;
@@ -135,7 +138,8 @@ fn add_tail<J: JournalName, D: Device, R: Record, G: Gate, W: Wait>(
     at: u64,
     list: &mut Vec<u8>,
 ) -> Result<(), JournalError>
-    ensures { OnOk result (AddsTail D.state D.honest J.name.shape.block_size at list.old.items list.new.items) }
+    ensures adds { OnOk result (AddsTail D.state D.honest J.name.shape.block_size at list.old.items list.new.items) }
+    ensures err { IfErr result (CutRefused D.state J.name.shape.block_size at) }
 {
     let size = session.block_size();
     let from = (at % size as u64) as usize;
@@ -163,15 +167,15 @@ fn write_blocks<J: JournalName, D: Device, R: Record, G: Gate, W: Wait>(
     bytes: &[u8],
     stopped: &mut Stopped,
 ) -> Result<SharedTicket<J, R>, JournalError>
+    requires fits { first + length bytes.now / J.name.shape.block_size < 2 ^ 64 }
+    requires credits { length bytes.now / J.name.shape.block_size ≤ J.name.capacity }
     ensures steps { IfOk result (λ ticket. ticket.steps ≡ write_steps ticket.ticket.handle first J.name.shape.block_size bytes.now (length bytes.now / J.name.shape.block_size)) }
     ensures noted { IfOk result (λ ticket. ticket.ticket.tid ≤ stopped.new) }
     ensures kept { stopped.old ≤ stopped.new }
+    ensures err { IfErr result (HandleRefused D J.name.capacity (IsAmong first (length bytes.now / J.name.shape.block_size))) }
 {
     let size = session.block_size();
     let blocks = (bytes.len() / size) as u64;
-    if first.checked_add(blocks).is_none() {
-        return Err(JournalError::BadBlock);
-    }
     let mut handle = session.start(rt, blocks)?;
     let filled = fill(rt, session, &mut handle, first, bytes, size);
     let ticket = session.stop(rt, handle);
@@ -192,9 +196,12 @@ fn fill<'s, J: JournalName, D: Device, R: Record, G: Gate, W: Wait>(
     size: usize,
 ) -> Result<(), JournalError>
     requires some { 0 < size }
+    requires block { size ≡ J.name.shape.block_size }
     requires fits { first + length bytes.now / size < 2 ^ 64 }
+    requires credits { length bytes.now / size ≤ handle.old.handle.left }
     ensures number { OnOk result (handle.new.handle.number ≡ handle.old.handle.number) }
     ensures steps { OnOk result (handle.new.steps ≡ handle.old.steps ++ write_steps handle.old.handle.number first size bytes.now (length bytes.now / size)) }
+    ensures err { IfErr result (StepRefused D (IsAmong first (length bytes.now / size))) }
 {
     for k in 0..bytes.len() / size {
         let block = BlockNo(first + k as u64);
@@ -216,6 +223,7 @@ fn write_pieces<J: JournalName, D: Device, R: Record, G: Gate, W: Wait>(
     requires fits { offset + length bytes.now < 2 ^ 64 }
     ensures pieces { OnOk result (WritesPieces D.state D.honest J.name.shape.block_size offset stopped.new bytes.now) }
     ensures kept { stopped.old ≤ stopped.new }
+    ensures err { IfErr result (WriteRefused D.state J.name.shape.block_size J.name.capacity offset (length bytes.now)) }
 {
     let mut done = 0;
     while done < bytes.len() {
@@ -228,10 +236,12 @@ fn write_pieces<J: JournalName, D: Device, R: Record, G: Gate, W: Wait>(
     Ok(())
 }
 
-/// How many bytes one handle writes from byte `at` on.
+/// How many bytes one handle writes at most from byte `at` on.
 fn piece_length(size: usize, capacity: u64, at: u64) -> usize
     requires size { 0 < size }
-    ensures { 0 < result }
+    requires capacity { 0 < capacity }
+    ensures some { 0 < result }
+    ensures within { at % size + result ≤ capacity * size }
 {
     let before = (at % size as u64) as usize;
     (capacity as usize)
@@ -256,6 +266,7 @@ pub fn write_zeros<J: JournalName, D: Device, R: Record, G: Gate, W: Wait>(
 ) -> Result<(), JournalError>
     ensures once { OnOk result (WritesAll D.state D.honest J.name.shape.block_size J.name.capacity offset (replicate count 0) stopped.new) }
     ensures kept { stopped.old ≤ stopped.new }
+    ensures err { IfErr result (WriteRefused D.state J.name.shape.block_size J.name.capacity offset count) }
 {
     if offset.checked_add(count as u64).is_none() {
         return Err(JournalError::BadBlock);
@@ -277,8 +288,11 @@ fn zero_once<J: JournalName, D: Device, R: Record, G: Gate, W: Wait>(
     count: usize,
     stopped: &mut Stopped,
 ) -> Result<(), JournalError>
+    requires fits { offset + count < 2 ^ 64 }
+    requires credits { LieWithin J.name.shape.block_size offset count J.name.capacity }
     ensures once { OnOk result (WritesOnce D.state D.honest J.name.shape.block_size offset (replicate count 0) stopped.new) }
     ensures kept { stopped.old ≤ stopped.new }
+    ensures err { IfErr result (WriteRefused D.state J.name.shape.block_size J.name.capacity offset count) }
 {
     let zeros = vec![in alloc; 0u8; count]?;
     let _ticket = write_once(rt, alloc, session, offset, &zeros, stopped)?;
@@ -298,6 +312,7 @@ fn zero_pieces<J: JournalName, D: Device, R: Record, G: Gate, W: Wait>(
     requires fits { offset + count < 2 ^ 64 }
     ensures pieces { OnOk result (WritesPieces D.state D.honest J.name.shape.block_size offset stopped.new (replicate count 0)) }
     ensures kept { stopped.old ≤ stopped.new }
+    ensures err { IfErr result (WriteRefused D.state J.name.shape.block_size J.name.capacity offset count) }
 {
     let mut done = 0;
     while done < count {

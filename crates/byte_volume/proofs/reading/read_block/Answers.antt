@@ -1,4 +1,4 @@
-use Rattle.byte_volume.proofs.Blocks.{refused, zeros}
+use Rattle.byte_volume.proofs.Blocks.{by_journal, zeros}
 use Rattle.byte_volume.proofs.reading.read_block.Goals as goal
 
 -- the block was revoked
@@ -9,4 +9,4 @@ returns-in-Err-Revoked-clause-reads g c =
 
 -- the read was refused
 pub returns-in-Err : goal.returns-in-Err
-returns-in-Err g c = record { reads = tt; err = refused g.D.Device.state _ c.args.block _ c.in-Err.e c.requires c.in-Err.ensures.why; length = c.in-Err.ensures.length }
+returns-in-Err g c = record { reads = tt; err = by_journal _ _ _ c.requires c.in-Err.ensures.why; length = c.in-Err.ensures.length }

@@ -1,5 +1,8 @@
-use Rattle.std.proofs.Common.{rules}
+use Rattle.std.proofs.Common.{◌+◌, length, arith, rules}
+use Rattle.std.proofs.lemmas.Result.{err_from_is_err_and}
 use Rattle.byte_volume.proofs.Pieces.{more_bytes}
+use Rattle.byte_volume.proofs.Refusals.{piece_refused}
+use Rattle.byte_volume.proofs.WholeBlocks.{piece-within}
 use Rattle.byte_volume.proofs.writing.write_pieces.Goals as goal
 
 -- one more piece
@@ -10,3 +13,15 @@ loop-done-preserved g c = record {
   pieces = more_bytes g.D.Device.state g.D.Device.honest _ _ _ _ c.loop-done.done c.min-count.result c.args.bytes.now _ c.in_ok-_ticket._ticket
       c.write_once.ensures.kept (search rules) c.loop-done.invariant.pieces c.in_ok-_ticket.ensures.once (search rules) c.in_ok-_ticket.ensures.noted;
 }
+
+-- a piece is within the credits of one handle
+pub write_once-requires-clause-credits : goal.write_once-requires-clause-credits
+write_once-requires-clause-credits g c =
+    rw (← c.block_size.ensures.size, ← c.capacity.ensures.capacity) (piece-within _ _ (c.args.offset + c.loop-done.done) _ _ c.block_size.ensures.some
+    c.piece_length-most.ensures.within (omega (arith, c.min-count.ensures)))
+
+-- one piece was refused
+pub returns-in_err-_ticket-clause-err : goal.returns-in_err-_ticket-clause-err
+returns-in_err-_ticket-clause-err g c =
+    let p = err_from_is_err_and c.from_residual.result c.from_residual.ensures.1 in
+    rw (p.1, p.2) (piece_refused g.D.Device.state _ _ c.args.offset (length c.args.bytes.now) c.loop-done.done _ _ (search rules) c.in_err-_ticket.ensures.err)

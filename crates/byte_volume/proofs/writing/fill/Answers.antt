@@ -1,0 +1,27 @@
+use Rattle.std.proofs.Common.{◌+◌, ◌∙◌, arith}
+use Rattle.std.proofs.lemmas.Grind.{common_steps}
+use Rattle.std.proofs.lemmas.Result.{err_from_is_err_and}
+use Rattle.byte_volume.proofs.Blocks.{by_journal}
+use Rattle.byte_volume.proofs.Refusals.{credits_left}
+use Rattle.byte_volume.proofs.WholeBlocks.{block-length}
+use Rattle.byte_volume.proofs.writing.fill.Goals as goal
+
+-- one more block is written
+pub loop-k-preserved : goal.loop-k-preserved
+loop-k-preserved g c = record {
+  number = grind (arith, common_steps);
+  steps = grind (arith, common_steps);
+  left = omega (arith, c.loop-k.invariant.left, credits_left _ _ c.in_ok-write.ensures.ok);
+}
+
+-- a write was refused
+pub returns-in_err-write-clause-err : goal.returns-in_err-write-clause-err
+returns-in_err-write-clause-err g c =
+    let p = err_from_is_err_and c.from_residual.result c.from_residual.ensures.1 in
+    rw (p.1, p.2) (record {
+      handle = c.loop-k.handle.handle;
+      b = c.args.first + c.loop-k.k;
+      its = (omega arith, omega (arith, c.loop-k-test.true));
+      credit = omega (arith, c.loop-k-test.true, c.loop-k.invariant.left);
+      refused = by_journal _ _ _ (block-length c.args.size c.loop-k.k c.args.bytes.now c.loop-k-test.true ∙ c.requires.block) c.in_err-write.ensures.why;
+    })

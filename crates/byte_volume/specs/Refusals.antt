@@ -1,0 +1,61 @@
+-- Why a change of a byte range or of blocks is refused.
+use Rattle.std.specs.Prelude.{◌≡◌, ◌^◌, ◌≤◌, ◌<◌, ◌+◌, ◌*◌, ◌/◌, ◌%◌, ℕ}
+use Rattle.journal_model.specs.declared.refusal.JournalError.{JournalError}
+use Rattle.journal_model.specs.declared.refusal.JournalError.TheVariants.{BadBlock, Memory}
+use Rattle.block_device.specs.State.{DeviceState}
+use Rattle.journal_front.specs.Front.{IsOpenHandle, TouchRefused}
+use Rattle.journal_front.specs.Values.{HandleValue}
+use Rattle.journal_steps.specs.Values.{JournalValue}
+use Rattle.shared_journal.specs.Moments.{AtOneMoment}
+use Rattle.volume_service.specs.Session.{NotOpened}
+use Rattle.byte_volume.specs.Reading.{BlockRefused}
+use Rattle.byte_volume.specs.Writing.{first_whole, whole_blocks}
+
+-- block b is one of this many from block `first` on
+abbrev pub IsAmong : ℕ → ℕ → ℕ → Type 0
+IsAmong first count b = (first ≤ b) × (b < first + count)
+
+-- block b begins before the end of the n bytes from byte `offset` on, and ends after byte `offset`
+abbrev pub MeetsRange : ℕ → ℕ → ℕ → ℕ → Type 0
+MeetsRange size offset n b = (b * size < offset + n) × (offset < b * size + size)
+
+-- at one moment under the lock, a step of an open handle on a block with P was refused, though it had a credit; nothing changed
+pub record StepRefused (D : Type 0) (P : ℕ → Type 0) (e : JournalError) : Type 0 where
+  pub handle : HandleValue
+  pub b : ℕ
+  pub its : P b
+  pub credit : 0 < handle.left
+  pub refused : AtOneMoment (λ (old new : JournalValue D). IsOpenHandle old.journal.front handle × TouchRefused old.journal.front handle b e × (new ≡ old))
+
+-- why handles that change blocks with P end early: none with so many credits, within the capacity, could be started; or a step was refused
+pub data HandleRefused (D : Type 0) (capacity : ℕ) (P : ℕ → Type 0) (e : JournalError) : Type 0 where
+  NotStarted : (credits : ℕ) → credits ≤ capacity → NotOpened D capacity credits e → HandleRefused D capacity P e
+  OfStep : StepRefused D P e → HandleRefused D capacity P e
+
+-- why a part of a block could not be read: there is no buffer, or the read of the block was refused
+pub data PartRefused {D : Type 0} (state : D → DeviceState) (b : ℕ) (e : JournalError) : Type 0 where
+  NoRoom : e ≡ Memory → PartRefused state b e
+  Unread : BlockRefused state b e → PartRefused state b e
+
+-- the same of the rest of the block in which byte `at` is, but not at its begin
+pub data CutRefused {D : Type 0} (state : D → DeviceState) (size at : ℕ) (e : JournalError) : Type 0 where
+  NoRest : e ≡ Memory → CutRefused state size at e
+  RestUnread : 0 < at % size → BlockRefused state (at / size) e → CutRefused state size at e
+
+-- why a write of n bytes is refused: the range ends past 2^64, there is no buffer, the rest of a block could not be read, or a handle ended early
+pub data WriteRefused {D : Type 0} (state : D → DeviceState) (size capacity offset n : ℕ) (e : JournalError) : Type 0 where
+  PastEnd : 2 ^ 64 ≤ offset + n → e ≡ BadBlock → WriteRefused state size capacity offset n e
+  NoBuffer : e ≡ Memory → WriteRefused state size capacity offset n e
+  OfRest : (b : ℕ) → MeetsRange size offset n b → BlockRefused state b e → WriteRefused state size capacity offset n e
+  OfHandle : HandleRefused D capacity (MeetsRange size offset n) e → WriteRefused state size capacity offset n e
+
+-- why a trim of n bytes is refused: the range ends past 2^64, or a handle that revokes its whole blocks ended early
+pub data TrimRefused (D : Type 0) (size capacity offset n : ℕ) (e : JournalError) : Type 0 where
+  PastEnd : 2 ^ 64 ≤ offset + n → e ≡ BadBlock → TrimRefused D size capacity offset n e
+  OfHandle : HandleRefused D capacity (IsAmong (first_whole size offset) (whole_blocks size offset n)) e → TrimRefused D size capacity offset n e
+
+-- why a revoke of this many blocks through one handle is refused: the numbers pass 2^64, no handle with so many credits could be started, or a step was refused
+pub data RevokeRefused (D : Type 0) (capacity first count : ℕ) (e : JournalError) : Type 0 where
+  PastEnd : 2 ^ 64 ≤ first + count → e ≡ BadBlock → RevokeRefused D capacity first count e
+  NoHandle : NotOpened D capacity count e → RevokeRefused D capacity first count e
+  AtStep : StepRefused D (IsAmong first count) e → RevokeRefused D capacity first count e
