@@ -1,5 +1,5 @@
 -- What a read of a byte range gives.
-use Rattle.std.specs.Prelude.{◌≡◌, ◌^◌, ◌≤◌, ◌+◌, ◌/◌, ◌%◌, ◌++◌, ℕ, List, [], length, take, drop, replicate}
+use Rattle.std.specs.Prelude.{◌≡◌, ◌≢◌, ◌^◌, ◌≤◌, ◌+◌, ◌/◌, ◌%◌, ◌++◌, ℕ, List, [], length, take, drop, replicate}
 use Rattle.journal_model.specs.declared.refusal.JournalError.{JournalError}
 use Rattle.journal_model.specs.declared.refusal.JournalError.TheVariants.{BadBlock, Memory, Revoked}
 use Rattle.block_device.specs.State.{DeviceState}
@@ -33,9 +33,9 @@ pub data ReadsRange {D : Type 0} (state : D → DeviceState) (honest : D → Typ
       ReadsPart state honest size ((offset + length before) / size) ((offset + length before) % size) (length part) part →
       bytes ≡ before ++ part → ReadsRange state honest size offset bytes
 
--- a read of the block's newest bytes was refused at one moment under the lock
+-- a read of the block's newest bytes was refused at one moment under the lock, and not for an unfinished revoke
 abbrev pub BlockRefused : {D : Type 0} → (D → DeviceState) → ℕ → JournalError → Type 0
-BlockRefused {D} state b e = AtOneMoment (λ (old new : JournalValue D). NewestRefused state old b new e)
+BlockRefused {D} state b e = (e ≢ Revoked) × AtOneMoment (λ (old new : JournalValue D). NewestRefused state old b new e)
 
 -- why a read of n bytes is refused: the range ends past 2^64, there is no buffer, or the read of a block was refused
 pub data RangeRefused {D : Type 0} (state : D → DeviceState) (offset n : ℕ) (e : JournalError) : Type 0 where

@@ -25,11 +25,13 @@ fn read_block<J: JournalName, D: Device, R: Record, G: Gate, W: Wait>(
 {
     match session.read_newest(rt, BlockNo(block), into) {
         Ok(()) => Ok(()),
-        Err(JournalError::Revoked) => {
-            into.fill(0);
-            Ok(())
-        }
-        Err(e) => Err(e),
+        Err(e) => match e {
+            JournalError::Revoked => {
+                into.fill(0);
+                Ok(())
+            }
+            _ => Err(e),
+        },
     }
 }
 
