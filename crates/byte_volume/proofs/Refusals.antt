@@ -1,9 +1,7 @@
 -- A part's refusal is one of the whole.
-use Rattle.std.proofs.Common.{◌≡◌, ◌≤◌, ◌<◌, ◌+◌, ◌*◌, ◌/◌, ◌^◌, arith, ap, subst, subst₂, ℕ}
+use Rattle.std.proofs.Common.{◌%◌, ◌≡◌, ◌≤◌, ◌<◌, ◌+◌, ◌*◌, ◌/◌, ◌^◌, arith, ap, subst, subst₂, ℕ}
 use Rattle.std.specs.Prelude.{IfErr, Result}
-use Rattle.std.proofs.lemmas.Nat.{mod_below}
 use Rattle.std.proofs.lemmas.Result.{IfErr-weaker}
-use native.Mathlib.Nat.{div-add-mod'}
 use Rattle.journal_model.specs.declared.refusal.JournalError.{JournalError}
 use Rattle.block_device.specs.State.{DeviceState}
 use Rattle.journal_front.specs.Values.{HandleValue}
@@ -14,7 +12,7 @@ use Rattle.byte_volume.specs.Refusals.CutRefused.{NoRest, RestUnread}
 use Rattle.byte_volume.specs.Refusals.HandleRefused.{NotStarted, OfStep}
 use Rattle.byte_volume.specs.Refusals.RevokeRefused.{AtStep, NoHandle, PastEnd as NumbersPastEnd}
 use Rattle.byte_volume.specs.Refusals.TrimRefused.{OfHandle as OfTrim}
-use Rattle.byte_volume.specs.Refusals.WriteRefused.{NoBuffer, OfHandle, OfRest, PastEnd}
+use Rattle.byte_volume.specs.Refusals.WriteRefused.{NoBuffer, OfHandle, OfHead, OfTail, PastEnd}
 use Rattle.byte_volume.specs.Writing.{first_whole, whole_blocks}
 use Rattle.byte_volume.proofs.WholeBlocks.{meets}
 
@@ -53,30 +51,23 @@ write_refused {D} state size s capacity offset n m result same some long =
     IfErr-weaker result _ _ (λ e why. OfHandle (handle_wider capacity (IsAmong (offset / s) (m / size)) (MeetsRange size offset n) e
     (λ b among. meets size offset n m b some long (subst (λ (k : ℕ). IsAmong (offset / k) (m / size) b) same among)) why))
 
--- the bytes before the range
-pub head_refused : {D : Type 0} (state : D → DeviceState) (size capacity offset n : ℕ) (e : JournalError) → 0 < size → CutRefused state size offset e →
-    WriteRefused state size capacity offset n e
-head_refused state size capacity offset n e some (NoRest is) = NoBuffer is
-head_refused state size capacity offset n e some (RestUnread cut why) =
-    OfRest (offset / size) (omega (arith, cut, div-add-mod' offset size), omega (arith, div-add-mod' offset size, mod_below offset size some)) why
-
--- the bytes after it
-pub tail_refused : {D : Type 0} (state : D → DeviceState) (size capacity offset n : ℕ) (e : JournalError) → 0 < size → CutRefused state size (offset + n) e →
-    WriteRefused state size capacity offset n e
-tail_refused state size capacity offset n e some (NoRest is) = NoBuffer is
-tail_refused state size capacity offset n e some (RestUnread cut why) =
-    let split = div-add-mod' (offset + n) size in
-    OfRest ((offset + n) / size) (omega (arith, cut, split), omega (arith, split, mod_below (offset + n) size some)) why
-
 -- a block that meets a piece meets the range
 piece_meets : (size offset n done count b : ℕ) → done + count ≤ n → MeetsRange size (offset + done) count b → MeetsRange size offset n b
 piece_meets size offset n done count b few meets = (omega (arith, few, meets.0), omega (arith, meets.1))
 
--- one piece of several
+-- one piece of several: the range's first, or one that begins with a block; and its last, or one that ends with a block
 pub piece_refused : {D : Type 0} (state : D → DeviceState) (size capacity offset n done count : ℕ) (e : JournalError) → done + count ≤ n →
+    (0 < (offset + done) % size → done ≡ 0) → (done + count < n → (offset + done + count) % size ≡ 0) →
     WriteRefused state size capacity (offset + done) count e → WriteRefused state size capacity offset n e
-piece_refused state size capacity offset n done count e few (PastEnd past is) = PastEnd (omega (arith, few, past)) is
-piece_refused state size capacity offset n done count e few (NoBuffer is) = NoBuffer is
-piece_refused state size capacity offset n done count e few (OfRest b meets why) = OfRest b (piece_meets size offset n done count b few meets) why
-piece_refused state size capacity offset n done count e few (OfHandle why) =
+piece_refused state size capacity offset n done count e few begins ends (PastEnd past is) = PastEnd (omega (arith, few, past)) is
+piece_refused state size capacity offset n done count e few begins ends (NoBuffer is) = NoBuffer is
+piece_refused state size capacity offset n done count e few begins ends (OfHead (NoRest is)) = NoBuffer is
+piece_refused state size capacity offset n done count e few begins ends (OfHead (RestUnread cut why)) =
+    let same : offset + done ≡ offset = omega (arith, begins cut) in
+    OfHead (subst (λ (at : ℕ). CutRefused state size at e) same (RestUnread cut why))
+piece_refused state size capacity offset n done count e few begins ends (OfTail (NoRest is)) = NoBuffer is
+piece_refused state size capacity offset n done count e few begins ends (OfTail (RestUnread cut why)) =
+    let same : offset + done + count ≡ offset + n = grind (arith, few, cut, ends) in
+    OfTail (subst (λ (at : ℕ). CutRefused state size at e) same (RestUnread cut why))
+piece_refused state size capacity offset n done count e few begins ends (OfHandle why) =
     OfHandle (handle_wider capacity (MeetsRange size (offset + done) count) (MeetsRange size offset n) e (λ b meets. piece_meets size offset n done count b few meets) why)

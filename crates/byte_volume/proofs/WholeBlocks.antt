@@ -1,7 +1,7 @@
 -- How many blocks a range of bytes has.
-use Rattle.std.proofs.Common.{◌≡◌, ◌≤◌, ◌<◌, ◌+◌, ◌-◌, ◌*◌, ◌/◌, ◌%◌, ◌++◌, sym, subst, ap, ◌∙◌, arith, ℕ, List, length, take, drop, length-append, length-drop, length-take-le, add-mul}
+use Rattle.std.proofs.Common.{min, ◌^◌, ◌≡◌, ◌≤◌, ◌<◌, ◌+◌, ◌-◌, ◌*◌, ◌/◌, ◌%◌, ◌++◌, sym, subst, ap, ◌∙◌, arith, ℕ, List, length, take, drop, length-append, length-drop, length-take-le, add-mul}
 use Rattle.std.proofs.lemmas.Grind.{div_ceil_times}
-use Rattle.std.proofs.lemmas.Nat.{div_below, div-mul-add, mod_below, mul-le}
+use Rattle.std.proofs.lemmas.Nat.{div_below, div-mul-add, mod-mul-add, mod_below, mul-le}
 use native.Mathlib.Nat.{div-add-mod'}
 use Rattle.block_device.specs.State.{DeviceState}
 use Rattle.byte_volume.specs.Reading.{ReadsPart}
@@ -59,8 +59,11 @@ pub within-credits : (size capacity offset n m : ℕ) → 0 < size → offset / 
 within-credits size capacity offset n m some long within =
     let past = past-times size offset n m long in
     let end = div_ceil_times (offset + n) size some in
-    omega (arith, cancel (offset / size + m / size) (offset / size + capacity) size some
-    (omega (arith, past, end.0, mul-le _ size _ size within (omega arith))))
+    omega (
+      arith,
+      cancel (offset / size + m / size) (offset / size + capacity) size some
+          (omega (arith, past, end.0, mul-le _ size _ size within (omega arith))),
+    )
 
 -- each of them meets the range
 pub meets : (size offset n m b : ℕ) → 0 < size → offset / size * size + m < offset + n + size → IsAmong (offset / size) (m / size) b → MeetsRange size offset n b
@@ -71,10 +74,19 @@ meets size offset n m b some long among =
     (omega (arith, past, up, add-mul b 1 size), omega (arith, down, div-add-mod' offset size, mod_below offset size some))
 
 -- a piece is within the credits of one handle
-pub piece-within : (size capacity at most n : ℕ) → 0 < size → at % size + most ≤ capacity * size → n ≤ most → LieWithin size at n capacity
-piece-within size capacity at most n some fits few =
+pub piece-within : (size capacity at most n : ℕ) → 0 < size → at % size + most ≡ min (capacity * size) (2 ^ 64 - 1) → n ≤ most → LieWithin size at n capacity
+piece-within size capacity at most n some full few =
     let end = div_ceil_times (at + n) size some in
-    cancel _ (at / size + capacity) size some (omega (arith, end.1, fits, few, div-add-mod' at size, add-mul (at / size) capacity size))
+    cancel _ (at / size + capacity) size some (omega (arith, end.1, full, few, div-add-mod' at size, add-mul (at / size) capacity size))
+
+-- a piece that is not the last ends with a block
+pub piece-ends : (size capacity offset n done most count end : ℕ) → 0 < size → offset + n < 2 ^ 64 → (offset + done) % size + most ≡ min (capacity * size) (2 ^ 64 - 1) →
+    count ≡ min most (n - done) → end ≡ offset + done + count → done + count < n → end % size ≡ 0
+piece-ends size capacity offset n done most count end some fits full least is more =
+    let split = div-add-mod' (offset + done) size in
+    let ends : ((offset + done) / size + capacity) * size + 0 ≡ end =
+    omega (arith, fits, full, least, is, more, split, add-mul ((offset + done) / size) capacity size) in
+    subst (λ (k : ℕ). k % size ≡ 0) ends (mod-mul-add ((offset + done) / size + capacity) size 0 some)
 
 -- each block of some bytes is whole
 pub block-length : (size k : ℕ) (bytes : List ℕ) → k < length bytes / size → length (take (k * size + size - k * size) (drop (k * size) bytes)) ≡ size

@@ -37,16 +37,17 @@ pub data PartRefused {D : Type 0} (state : D → DeviceState) (b : ℕ) (e : Jou
   NoRoom : e ≡ Memory → PartRefused state b e
   Unread : BlockRefused state b e → PartRefused state b e
 
--- the same of the rest of the block in which byte `at` is, but not at its begin
+-- why the rest of the block that begins before byte `at` and ends after it could not be had: there is no memory, or the read was refused
 pub data CutRefused {D : Type 0} (state : D → DeviceState) (size at : ℕ) (e : JournalError) : Type 0 where
   NoRest : e ≡ Memory → CutRefused state size at e
   RestUnread : 0 < at % size → BlockRefused state (at / size) e → CutRefused state size at e
 
--- why a write of n bytes is refused: the range ends past 2^64, there is no buffer, the rest of a block could not be read, or a handle ended early
+-- why a write of n bytes is refused: the range ends past 2^64, there is no buffer, the rest of its first or last block could not be had, or a handle ended early
 pub data WriteRefused {D : Type 0} (state : D → DeviceState) (size capacity offset n : ℕ) (e : JournalError) : Type 0 where
   PastEnd : 2 ^ 64 ≤ offset + n → e ≡ BadBlock → WriteRefused state size capacity offset n e
   NoBuffer : e ≡ Memory → WriteRefused state size capacity offset n e
-  OfRest : (b : ℕ) → MeetsRange size offset n b → BlockRefused state b e → WriteRefused state size capacity offset n e
+  OfHead : CutRefused state size offset e → WriteRefused state size capacity offset n e
+  OfTail : CutRefused state size (offset + n) e → WriteRefused state size capacity offset n e
   OfHandle : HandleRefused D capacity (MeetsRange size offset n) e → WriteRefused state size capacity offset n e
 
 -- why a trim of n bytes is refused: the range ends past 2^64, or a handle that revokes its whole blocks ended early

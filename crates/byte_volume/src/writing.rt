@@ -1,5 +1,5 @@
 //! Cuts a write of a byte range into handles, and keeps the rest of its first and last block.
-ghost use Rattle.std.specs.Prelude.{◌≡◌, ◌≤◌, ◌<◌, ◌+◌, ◌*◌, ◌/◌, ◌%◌, ◌^◌, ◌++◌, true, false, length, replicate, IfErr, IfOk, OnOk};
+ghost use Rattle.std.specs.Prelude.{◌≡◌, ◌≤◌, ◌<◌, ◌+◌, ◌-◌, ◌*◌, ◌/◌, ◌%◌, ◌^◌, ◌++◌, true, false, length, min, replicate, IfErr, IfOk, OnOk};
 ghost use Rattle.byte_volume.specs.Refusals.{CutRefused, HandleRefused, IsAmong, StepRefused, WriteRefused};
 ghost use Rattle.byte_volume.specs.Writing.{AddsHead, AddsTail, IsOverlay, LieWithin, WritesAll, WritesOnce, WritesPieces, WritesRange, write_steps};
 
@@ -96,7 +96,6 @@ fn overlay<J: JournalName, D: Device, R: Record, G: Gate, W: Wait>(
     offset: u64,
     bytes: &[u8],
 ) -> Result<Vec<u8>, JournalError>
-    requires size { 0 < J.name.shape.block_size }
     requires fits { offset + length bytes.now < 2 ^ 64 }
     ensures overlay { IfOk result (λ whole. IsOverlay D.state D.honest J.name.shape.block_size offset bytes.now whole.items) }
     ensures err { IfErr result (WriteRefused D.state J.name.shape.block_size J.name.capacity offset (length bytes.now)) }
@@ -241,7 +240,7 @@ fn piece_length(size: usize, capacity: u64, at: u64) -> usize
     requires size { 0 < size }
     requires capacity { 0 < capacity }
     ensures some { 0 < result }
-    ensures within { at % size + result ≤ capacity * size }
+    ensures full { at % size + result ≡ min (capacity * size) (2 ^ 64 - 1) }
 {
     let before = (at % size as u64) as usize;
     (capacity as usize)
