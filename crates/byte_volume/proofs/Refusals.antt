@@ -1,5 +1,5 @@
 -- A part's refusal is one of the whole.
-use Rattle.std.proofs.Common.{◌%◌, ◌≡◌, ◌≤◌, ◌<◌, ◌+◌, ◌*◌, ◌/◌, ◌^◌, arith, ap, subst, subst₂, ℕ}
+use Rattle.std.proofs.Common.{◌≡◌, ◌≤◌, ◌<◌, ◌+◌, ◌*◌, ◌/◌, ◌%◌, ◌^◌, arith, ap, subst, subst₂, ℕ}
 use Rattle.std.specs.Prelude.{IfErr, Result}
 use Rattle.std.proofs.lemmas.Result.{IfErr-weaker}
 use Rattle.journal_model.specs.declared.refusal.JournalError.{JournalError}

@@ -16,7 +16,7 @@ use volume_service::Session;
 ///
 /// # Errors
 ///
-/// Those of `revoke_blocks`. Handles that revoked the first blocks have stopped, and are noted.
+/// Those of `revoke_blocks`, except `TooMany`. Handles that revoked the first blocks have stopped, and are noted.
 pub fn trim_range<J: JournalName, D: Device, R: Record, G: Gate, W: Wait>(
     rt: &W,
     session: &mut Session<'_, J, D, R, G>,

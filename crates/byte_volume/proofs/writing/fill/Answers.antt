@@ -3,7 +3,7 @@ use Rattle.std.proofs.lemmas.Grind.{common_steps}
 use Rattle.std.proofs.lemmas.Result.{err_from_is_err_and}
 use Rattle.byte_volume.proofs.Blocks.{by_journal}
 use Rattle.byte_volume.proofs.Refusals.{credits_left}
-use Rattle.byte_volume.proofs.WholeBlocks.{block-length}
+use Rattle.byte_volume.proofs.WholeBlocks.{length-block}
 use Rattle.byte_volume.proofs.writing.fill.Goals as goal
 
 -- one more block is written
@@ -23,5 +23,5 @@ returns-in_err-write-clause-err g c =
       b = c.args.first + c.loop-k.k;
       its = (omega arith, omega (arith, c.loop-k-test.true));
       credit = omega (arith, c.loop-k-test.true, c.loop-k.invariant.left);
-      refused = by_journal _ _ _ (block-length c.args.size c.loop-k.k c.args.bytes.now c.loop-k-test.true ∙ c.requires.block) c.in_err-write.ensures.why;
+      refused = by_journal _ _ _ (length-block c.args.size c.loop-k.k c.args.bytes.now c.loop-k-test.true ∙ c.requires.block) c.in_err-write.ensures.why;
     })

@@ -1,7 +1,7 @@
 use Rattle.std.proofs.Common.{◌<◌, arith, refl, length}
 use Rattle.byte_volume.proofs.Overlays.{wrote_whole}
 use Rattle.byte_volume.proofs.Refusals.{write_refused}
-use Rattle.byte_volume.proofs.WholeBlocks.{aligned-length, overlay-length, past-fits, within-credits}
+use Rattle.byte_volume.proofs.WholeBlocks.{length-aligned, length-overlay, past_fits, within_credits}
 use Rattle.byte_volume.proofs.writing.write_once.Goals as goal
 
 -- the bytes are whole blocks
@@ -13,30 +13,30 @@ returns-then-end-size-eq0-clause-once g c =
 pub write_blocks-requires-clause-credits : goal.write_blocks-requires-clause-credits
 write_blocks-requires-clause-credits g c =
     let some : 0 < g.J.JournalName.name.shape.block_size = omega (arith, c.block_size-size.ensures.size, c.block_size-size.ensures.some) in
-    within-credits _ _ c.args.offset (length c.args.bytes.now) _ some (aligned-length _ c.args.offset (length c.args.bytes.now) some) c.requires.credits
+    within_credits _ _ c.args.offset (length c.args.bytes.now) _ some (length-aligned _ c.args.offset (length c.args.bytes.now) some) c.requires.credits
 
 pub returns-then-end-size-eq0-clause-err : goal.returns-then-end-size-eq0-clause-err
 returns-then-end-size-eq0-clause-err g c =
     let some : 0 < g.J.JournalName.name.shape.block_size = omega (arith, c.block_size-size.ensures.size, c.block_size-size.ensures.some) in
     write_refused g.D.Device.state _ _ _ c.args.offset (length c.args.bytes.now) _ c.write_blocks.result c.block_size-size.ensures.size some
-    (aligned-length _ c.args.offset (length c.args.bytes.now) some) c.write_blocks.ensures.err
+    (length-aligned _ c.args.offset (length c.args.bytes.now) some) c.write_blocks.ensures.err
 
 -- the blocks of the overlay
 pub write_blocks-requires-2-clause-fits : goal.write_blocks-requires-2-clause-fits
 write_blocks-requires-2-clause-fits g c =
     let some : 0 < g.J.JournalName.name.shape.block_size = omega (arith, c.block_size-size.ensures.size, c.block_size-size.ensures.some) in
-    let long = overlay-length g.D.Device.state g.D.Device.honest _ c.args.offset c.args.bytes.now _ some c.in_ok-whole.ensures.overlay in
-    rw (c.deref.ensures.value, c.block_size-size.ensures.size) (past-fits _ c.args.offset (length c.args.bytes.now) _ _ some long c.requires.fits)
+    let long = length-overlay g.D.Device.state g.D.Device.honest _ c.args.offset c.args.bytes.now _ some c.in_ok-whole.ensures.overlay in
+    rw (c.deref.ensures.value, c.block_size-size.ensures.size) (past_fits _ c.args.offset (length c.args.bytes.now) _ _ some long c.requires.fits)
 
 pub write_blocks-requires-2-clause-credits : goal.write_blocks-requires-2-clause-credits
 write_blocks-requires-2-clause-credits g c =
     let some : 0 < g.J.JournalName.name.shape.block_size = omega (arith, c.block_size-size.ensures.size, c.block_size-size.ensures.some) in
-    let long = overlay-length g.D.Device.state g.D.Device.honest _ c.args.offset c.args.bytes.now _ some c.in_ok-whole.ensures.overlay in
-    rw c.deref.ensures.value (within-credits _ _ c.args.offset (length c.args.bytes.now) _ some long c.requires.credits)
+    let long = length-overlay g.D.Device.state g.D.Device.honest _ c.args.offset c.args.bytes.now _ some c.in_ok-whole.ensures.overlay in
+    rw c.deref.ensures.value (within_credits _ _ c.args.offset (length c.args.bytes.now) _ some long c.requires.credits)
 
 pub returns-clause-err : goal.returns-clause-err
 returns-clause-err g c =
     let some : 0 < g.J.JournalName.name.shape.block_size = omega (arith, c.block_size-size.ensures.size, c.block_size-size.ensures.some) in
-    let long = overlay-length g.D.Device.state g.D.Device.honest _ c.args.offset c.args.bytes.now _ some c.in_ok-whole.ensures.overlay in
+    let long = length-overlay g.D.Device.state g.D.Device.honest _ c.args.offset c.args.bytes.now _ some c.in_ok-whole.ensures.overlay in
     write_refused g.D.Device.state _ _ _ c.args.offset (length c.args.bytes.now) (length c.deref.result.now) c.write_blocks-2.result c.block_size-size.ensures.size some
     (rw c.deref.ensures.value long) c.write_blocks-2.ensures.err

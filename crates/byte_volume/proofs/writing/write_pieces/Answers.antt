@@ -3,7 +3,7 @@ use Rattle.std.proofs.lemmas.Grind.{common_steps}
 use Rattle.std.proofs.lemmas.Result.{err_from_is_err_and}
 use Rattle.byte_volume.proofs.Pieces.{more_bytes}
 use Rattle.byte_volume.proofs.Refusals.{piece_refused}
-use Rattle.byte_volume.proofs.WholeBlocks.{piece-ends, piece-within}
+use Rattle.byte_volume.proofs.WholeBlocks.{piece_ends, piece_within}
 use Rattle.byte_volume.proofs.writing.write_pieces.Goals as goal
 
 -- one more piece
@@ -11,7 +11,7 @@ pub loop-done-preserved : goal.loop-done-preserved
 loop-done-preserved g c =
     let full = rw (c.block_size.ensures.size, c.capacity.ensures.capacity) at c.piece_length-most.ensures.full in
     let some = rw c.block_size.ensures.size at c.block_size.ensures.some in
-    let ends = piece-ends _ _ c.args.offset (length c.args.bytes.now) c.loop-done.done _ c.min-count.result (c.args.offset + (c.loop-done.done + c.min-count.result)) some c.requires.fits full
+    let ends = piece_ends _ _ c.args.offset (length c.args.bytes.now) c.loop-done.done _ c.min-count.result (c.args.offset + (c.loop-done.done + c.min-count.result)) some c.requires.fits full
     c.min-count.ensures (omega arith) in
     record {
       within = search rules;
@@ -24,7 +24,7 @@ loop-done-preserved g c =
 -- a piece is within the credits of one handle
 pub write_once-requires-clause-credits : goal.write_once-requires-clause-credits
 write_once-requires-clause-credits g c =
-    rw (← c.block_size.ensures.size, ← c.capacity.ensures.capacity) (piece-within _ _ (c.args.offset + c.loop-done.done) _ _ c.block_size.ensures.some
+    rw (← c.block_size.ensures.size, ← c.capacity.ensures.capacity) (piece_within _ _ (c.args.offset + c.loop-done.done) _ _ c.block_size.ensures.some
     c.piece_length-most.ensures.full (omega (arith, c.min-count.ensures)))
 
 -- one piece was refused
@@ -33,7 +33,7 @@ returns-in_err-_ticket-clause-err g c =
     let p = err_from_is_err_and c.from_residual.result c.from_residual.ensures.1 in
     let full = rw (c.block_size.ensures.size, c.capacity.ensures.capacity) at c.piece_length-most.ensures.full in
     let some = rw c.block_size.ensures.size at c.block_size.ensures.some in
-    let ends = piece-ends _ _ c.args.offset (length c.args.bytes.now) c.loop-done.done _ c.min-count.result (c.args.offset + c.loop-done.done + c.min-count.result) some c.requires.fits full
+    let ends = piece_ends _ _ c.args.offset (length c.args.bytes.now) c.loop-done.done _ c.min-count.result (c.args.offset + c.loop-done.done + c.min-count.result) some c.requires.fits full
     c.min-count.ensures (omega arith) in
     let long : length (take (c.loop-done.done + c.min-count.result - c.loop-done.done) (drop c.loop-done.done c.args.bytes.now)) ≡ c.min-count.result = grind (arith, common_steps) in
     rw (p.1, p.2) (piece_refused g.D.Device.state _ _ c.args.offset (length c.args.bytes.now) c.loop-done.done c.min-count.result _ (search rules)
