@@ -2,7 +2,7 @@
 """Writes the rows of crates/serve_rows: what a client sends, and what a server has to answer and to leave, by a model of NBD (proto.md of the
 nbd project) that shares nothing with the server.
 
-    serve_rows.py FOLDER        writes FOLDER/streams.rows and FOLDER/stops.rows
+    serve_rows.py FOLDER        writes FOLDER/streams.rows, FOLDER/waits.rows and FOLDER/stops.rows
 """
 import itertools, struct, sys
 
@@ -29,6 +29,7 @@ class Connection:
         self.no_zeroes = no_zeroes
         self.hello = struct.pack(">I", 3 if no_zeroes else 1) if flags is None else flags
         self.requests, self.committed, self.count = b"", [], 0
+        self.asked = []
         self.end = "malformed" if flags and struct.unpack(">I", flags)[0] > 3 else "well"
         self.out = b"NBDMAGICIHAVEOPT" + struct.pack(">H", 3)
         self.home = bytearray(SIZE)
@@ -107,6 +108,7 @@ class Connection:
     def request(self, command, cookie, offset=0, length=0, data=b"", flags=0, magic=0x25609513):
         length = length or len(data)
         self.requests += struct.pack(">IHHQQI", magic, flags, command, cookie, offset, length) + data
+        self.asked.append(len(self.requests))
         if magic != 0x25609513:
             self.end = "malformed"
             return self
@@ -140,6 +142,12 @@ class Connection:
     def given(self):
         return "serves %s\nhello%s\nrequests%s" % (
             ("readonly " if self.read_only else "writable ") + self.name.decode(), spell(self.hello), spell(self.requests))
+
+    def given_apart(self):
+        """as `given`, with a line for each request"""
+        lines = [spell(self.requests[a:b])[1:] for a, b in zip([0] + self.asked, self.asked)]
+        return "serves %s\nhello%s\nrequests\n%s" % (
+            ("readonly " if self.read_only else "writable ") + self.name.decode(), spell(self.hello), "\n".join(lines))
 
     def wanted(self):
         return "out%s\nend %s requests=%d closed=true\ncommitted%s\nhome%s" % (
@@ -191,6 +199,15 @@ def streams():
     yield "wrong on purpose: a flush that is answered with an error", c().go().request(3, 7).request(2, 8)
 
 
+def waits():
+    c = Connection
+    yield "writes and reads, each after the answer to the one before", c().go().request(1, 1, 1024, data=b"A" * 2048).request(0, 2, 0, 4096).request(1, 3, 1500, data=b"B" * 1500).request(1, 4, 9, data=b"C").request(0, 5, 0, 4096).request(2, 6)
+    yield "zeros, trims and requests without bytes", c().go().request(1, 1, 0, data=b"A" * 4096).request(6, 2, 700, 1400).request(4, 3, 1000, 2000).request(6, 4, 7).request(4, 5, 7).request(0, 6, 0, 5000).request(2, 7)
+    yield "refusals", c().go().request(1, 1, SIZE - 5, data=b"0123456789").request(4, 2, SIZE, 1).request(0, 3, 0, MOST + 1).request(99, 4).request(1, 5, 0, data=b"A").request(2, 6)
+    yield "the client ends while it waits", c().go().request(1, 1, 0, data=b"A" * 1024).request(1, 2, 1024, data=b"B" * 1024)
+    yield "wrong on purpose: the second of two answers is missing", c().go().request(1, 1, 0, data=b"A" * 1024).request(1, 2, 1024, data=b"B" * 1024).request(2, 3)
+
+
 def stops():
     c = Connection
     one = c().go()
@@ -222,6 +239,13 @@ if __name__ == "__main__":
             if name.startswith("wrong on purpose"):
                 wanted = wanted.replace(spell(struct.pack(">IIQ", 0x67446698, 0, 7))[1:], spell(struct.pack(">IIQ", 0x67446698, 5, 7))[1:])
             f.write("\n== %s\n%s\n-->\n%s\n" % (name, c.given(), wanted))
+    with open(folder + "/waits.rows", "w") as f:
+        f.write("# A client that sends each request once it has the answer to the one before. No answer may wait while the server reads on.\nrows waits\n")
+        for name, c in waits():
+            wanted = c.wanted()
+            if name.startswith("wrong on purpose"):
+                wanted = wanted.replace(spell(c.out[-16:])[1:], "", 1)
+            f.write("\n== %s\n%s\n-->\n%s\n" % (name, c.given_apart(), wanted))
     with open(folder + "/stops.rows", "w") as f:
         f.write("# The device stops at each of its writes: what an opening then finds is what the writes of the client leave, up to one of them that\n"
                 "# stands no earlier than the last flush that was answered, as long as they were answered without an error.\nrows stops\n")

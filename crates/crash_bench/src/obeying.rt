@@ -14,12 +14,12 @@ use jbench_files::{Text, device_of, open_pair_within, open_text};
 use jbench_words::fault::{Status, refuse_file};
 use jbench_words::words::{BenchWords, ServeWords, Words};
 use std::io;
-use std::io::{BufReader, Read, Write};
+use std::io::{BufWriter, Read, Write};
 use std::sync::Wait;
 use std::thread::Threads;
 
-/// Bytes that `serve` reads ahead.
-const AHEAD: usize = 65_536;
+/// Bytes of answers that `serve` gathers.
+const GATHERED: usize = 4096;
 
 /// Runs the command that the words name. `contents` is what the files of a log are assumed to hold.
 ///
@@ -144,8 +144,8 @@ fn serve_device<T: Threads + Wait + Sync, C: Contents + Send, E: Write>(
 ) -> io::Result<Option<FileDevice<C>>>
     ensures { IfOk result (λ done. IfSome done (IsClosedLeft C.contents)) }
 {
-    let input = BufReader::with_capacity(rt.alloc(), AHEAD, rt.stdin())?;
-    serving::serve(threads, rt.alloc(), words, device, input, rt.stdout(), err)
+    let out = BufWriter::with_capacity(rt.alloc(), GATHERED, rt.stdout())?;
+    serving::serve(threads, rt.alloc(), words, device, rt.stdin(), out, err)
 }
 
 /// The status of a command that answers something only if all was done.

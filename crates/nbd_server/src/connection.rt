@@ -8,12 +8,12 @@ use crate::replies::{Answer, Due, LONG_BYTES, Output};
 use block_device::Device;
 use byte_volume::Stopped;
 use crossbeam_channel::Sender;
-use nbd_protocol::numbers::{DISCONNECT, READ};
+use nbd_protocol::numbers::{DISCONNECT, FLUSH, READ, WRITE};
 use nbd_protocol::{REQUEST_BYTES, Request};
 use shared_journal::{JournalName, Record};
 use std::alloc::Global;
 use std::io;
-use std::io::{ErrorKind, Read, Write};
+use std::io::{BufReader, ErrorKind, Read, Write};
 use std::sync::Wait;
 use volume_service::Session;
 
@@ -21,7 +21,7 @@ use volume_service::Session;
 pub(crate) struct Connection<'m, I: Read + Drop, O: Write + Drop> {
     pub(crate) alloc: Global,
     pub(crate) export: Export<'m>,
-    pub(crate) input: I,
+    pub(crate) input: BufReader<I>,
     pub(crate) out: &'m Output<O>,
     /// The flusher's end of owed answers.
     pub(crate) owed: Sender<Due>,
@@ -40,11 +40,12 @@ impl<I: Read + Drop, O: Write + Drop> Connection<'_, I, O> {
         let mut stopped = Stopped::new();
         let mut requests = 0;
         let end = connection.talk(rt, session, &mut stopped, &mut requests);
+        let sent = connection.out.send(rt);
         Done {
             requests,
             upto: stopped.upto(),
             committed: Vec::new(connection.alloc),
-            end,
+            end: end.and(sent),
         }
     }
 
@@ -61,10 +62,12 @@ impl<I: Read + Drop, O: Write + Drop> Connection<'_, I, O> {
         }
         let mut buffers = Buffers::new(self.alloc);
         for _ in rt.forever() {
+            self.send_before_a_wait(rt, REQUEST_BYTES)?;
             let Some(request) = next_request(&mut self.input)? else {
                 return Ok(());
             };
             *requests = requests.saturating_add(1);
+            self.send_before(rt, &request)?;
             let (alloc, read_only) = (self.alloc, self.export.read_only);
             if is_long_read(&request) {
                 self.out.lend(rt, &mut buffers.read);
@@ -76,6 +79,23 @@ impl<I: Read + Drop, O: Write + Drop> Connection<'_, I, O> {
             self.give(rt, given)?;
         }
         unreachable!()
+    }
+
+    /// Sends the answers given so far, if the client has to be waited for before so many of its bytes are here.
+    fn send_before_a_wait<W: Wait>(&self, rt: &W, wanted: usize) -> io::Result<()> {
+        if self.input.buffer().len() < wanted {
+            return self.out.send(rt);
+        }
+        Ok(())
+    }
+
+    /// Sends the answers given so far, if a request may take long: all but a flush, and a write whose bytes are here.
+    fn send_before<W: Wait>(&self, rt: &W, request: &Request) -> io::Result<()> {
+        match request.command {
+            FLUSH => Ok(()),
+            WRITE => self.send_before_a_wait(rt, request.length as usize),
+            _ => self.out.send(rt),
+        }
     }
 
     /// Makes the handshake; true if requests follow.

@@ -42,19 +42,27 @@ impl<O: Write + Drop> Flusher<'_, O> {
         }
     }
 
-    /// As `run`, and records answers.
+    /// As `run`, and records answers. Those of one commit are sent together.
     fn release_all<J: JournalName, D: Device, R: Record, W: Wait>(
         &self,
         rt: &W,
         session: &mut Session<'_, J, D, R>,
         committed: &mut Vec<Committed>,
     ) -> io::Result<()> {
+        let mut reached = Tid(0);
         for _ in rt.forever() {
             let Ok(due) = self.owed.recv(rt) else {
                 break;
             };
+            if reached.0 < due.upto().0 {
+                self.out.send(rt)?;
+                reached = due.upto();
+            }
             let (reply, is_committed) = release(rt, session, &due);
             self.out.give(rt, Answer::Now(reply))?;
+            if self.owed.is_empty() {
+                self.out.send(rt)?;
+            }
             if is_committed && committed.len() < self.keep {
                 register(committed, &due)?;
             }

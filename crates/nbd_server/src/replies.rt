@@ -204,7 +204,8 @@ impl Answer {
     }
 }
 
-/// The one output. An answer is written whole: no other thread's bytes come between.
+/// The one output. An answer is written whole: no other thread's bytes come between. If the writer gathers what it is given, answers wait
+/// there for `send`.
 #[derive(Drop)]
 pub struct Output<O: Write + Drop> {
     out: Mutex<O>,
@@ -237,26 +238,28 @@ impl<O: Write + Drop> Output<O> {
         shake_hands(rt, alloc, input, &mut *out, volume)
     }
 
-    /// Gives an answer, or returns it if it is owed.
+    /// Gives an answer, or returns it if it is owed. A long one is sent, with all before it.
     pub fn give<W: Wait>(&self, rt: &W, answer: Answer) -> io::Result<Option<Due>>
         ensures { IfOk result (λ owed. IfSome owed (λ due. answer ≡ Later due)) }
     {
         match answer {
-            Answer::Now(reply) => self.send(rt, &reply.bytes)?,
+            Answer::Now(reply) => self.write(rt, &reply.bytes)?,
             Answer::Bytes(reply) => {
-                self.send(rt, &reply.bytes)?;
-                self.keep(rt, reply);
+                self.write(rt, &reply.bytes)?;
+                self.keep(rt, reply)?;
             }
             Answer::Later(due) => return Ok(Some(due)),
         }
         Ok(None)
     }
 
-    /// Keeps the memory of a long answer that was given.
-    fn keep<W: Wait>(&self, rt: &W, reply: ReadReply) {
+    /// Sends a long answer that was given, and keeps its memory.
+    fn keep<W: Wait>(&self, rt: &W, reply: ReadReply) -> io::Result<()> {
         if reply.is_long() {
+            self.send(rt)?;
             *self.given.lock(rt) = Some(reply);
         }
+        Ok(())
     }
 
     /// Lets a buffer have the memory of the last long answer that was given, if it is not in use again.
@@ -267,10 +270,13 @@ impl<O: Write + Drop> Output<O> {
     }
 
     /// Writes bytes whole.
-    fn send<W: Wait>(&self, rt: &W, bytes: &[u8]) -> io::Result<()> {
-        let mut out = self.out.lock(rt);
-        out.write_all(bytes)?;
-        out.flush()
+    fn write<W: Wait>(&self, rt: &W, bytes: &[u8]) -> io::Result<()> {
+        self.out.lock(rt).write_all(bytes)
+    }
+
+    /// Sends the answers that were given.
+    pub fn send<W: Wait>(&self, rt: &W) -> io::Result<()> {
+        self.out.lock(rt).flush()
     }
 }
 

@@ -14,10 +14,13 @@ use crossbeam_channel::bounded;
 use journal_model::{JournalError, Tid};
 use shared_journal::{JournalName, Parts, Record, UnnamedJournal};
 use std::alloc::{AllocError, Global};
-use std::io::{Read, Write};
+use std::io::{BufReader, Read, Write};
 use std::sync::Wait;
 use std::thread::Threads;
 use volume_service::{OpenGate, Session, Task, do_tasks};
+
+/// How many bytes of requests are read ahead.
+const AHEAD: usize = 65_536;
 
 /// How many answers may be owed; a request that would owe one more waits.
 const MOST_OWED: usize = 1024;
@@ -108,6 +111,9 @@ fn parts<'m, I: Read + Drop, O: Write + Drop>(
     input: I,
     out: &'m Output<O>,
 ) -> Result<Vec<Part<'m, I, O>>, AllocError> {
+    let Ok(input) = BufReader::with_capacity(alloc, AHEAD, input) else {
+        return Err(AllocError);
+    };
     let (to_flusher, owed) = bounded(alloc, MOST_OWED)?;
     let (to_sender, long) = bounded(alloc, MOST_LONG)?;
     let mut parts = Vec::with_capacity(alloc, 3)?;

@@ -1,5 +1,6 @@
 //! Serves a row over a new log in memory. Lines tell the result: `out` the answered bytes; `end` how the connection ended and how many
 //! requests it had; `committed` the cookies of answers that confirmed a commit; `home` the content of home.
+use crate::client::{Answers, Client};
 use crate::given::Given;
 use crate::spelling::spell;
 use block_device::{Device, MemDevice};
@@ -11,6 +12,7 @@ use std::alloc::Global;
 use std::fmt::Write;
 use std::io::ErrorKind;
 use std::sync::Wait;
+use std::sync::atomic::AtomicBool;
 use std::thread::Threads;
 
 /// In bytes.
@@ -53,18 +55,19 @@ pub fn serve_on<D: Device + Send + Drop, T: Threads + Wait + Sync>(
     let Ok(unnamed) = UnnamedJournal::<D, Unrecorded>::open(alloc, device) else {
         return Err(RowError::Unread);
     };
-    let out = Output::new(Vec::new(alloc));
+    let waits = AtomicBool::new(false);
+    let out = Output::new(Answers::new(Vec::new(alloc), &waits));
     let export = Export {
         name: given.name,
         read_only: given.read_only,
     };
-    let stream = given.stream.as_slice();
-    let Ok(served) = serve(threads, alloc, unnamed, export, KEEP, stream, &out) else {
+    let client = Client::new(given, &waits);
+    let Ok(served) = serve(threads, alloc, unnamed, export, KEEP, client, &out) else {
         return Err(RowError::Memory);
     };
     Ok(Left {
         done: served.done,
-        out: out.into_inner(),
+        out: out.into_inner().into_sent(),
         closed: served.closed.is_ok(),
         device: served.parts.device,
     })

@@ -1,5 +1,5 @@
 //! Reads a row: a line `serves` with `readonly` or `writable` and a name, a line `hello` with the client's bytes before its first request,
-//! and a line `requests` with the rest.
+//! and a line `requests` with the rest. If more lines follow, the client sends each once it has all answers to those before.
 use crate::spelling::bytes_of;
 use log_rows::RowError;
 use log_rows::words::cut;
@@ -15,6 +15,8 @@ pub struct Given<'a> {
     pub stream: Vec<u8>,
     /// How many of them come before the first request.
     pub before: usize,
+    /// Where the parts of its requests end, a line each.
+    pub ends: Vec<usize>,
 }
 
 pub fn read<'a>(alloc: Global, text: &'a str) -> Result<Given<'a>, RowError> {
@@ -24,11 +26,24 @@ pub fn read<'a>(alloc: Global, text: &'a str) -> Result<Given<'a>, RowError> {
     let (kind, name) = cut(words, " ")?;
     let mut stream = bytes_of(alloc, hello)?;
     let before = stream.len();
-    stream.extend_from_slice(&bytes_of(alloc, requests)?)?;
+    let ends = add_parts(alloc, &mut stream, requests)?;
     Ok(Given {
         name: name.trim(),
         read_only: kind == "readonly",
         stream,
         before,
+        ends,
     })
+}
+
+/// Adds the bytes of each line to the stream. Returns where they end.
+fn add_parts(alloc: Global, stream: &mut Vec<u8>, lines: &str) -> Result<Vec<usize>, RowError> {
+    let mut ends = Vec::new(alloc);
+    for line in lines.lines() {
+        stream.extend_from_slice(&bytes_of(alloc, line)?)?;
+        if ends.push(stream.len()).is_err() {
+            return Err(RowError::Memory);
+        }
+    }
+    Ok(ends)
 }

@@ -1,9 +1,11 @@
 //! Replays recorded client streams against a server in memory. Each row's answers and effects must be as wanted, also with a stop at each
 //! device write.
 //!
-//! `given` reads a row, `spelling` spells bytes, `connection` serves a row, and `stops` serves it with a stop at each write.
+//! `given` reads a row, `spelling` spells bytes, `client` sends and gets them, `connection` serves a row, and `stops` serves it with a stop at
+//! each write.
 #![tactic(auto)]
 
+mod client;
 mod connection;
 mod given;
 mod spelling;
