@@ -9,7 +9,8 @@
 # FOLDER (default: /dev/shm, a memory file system; name one on a disk for that) is where the files are made, in a folder of its own that is
 # removed. The program is `./jbench`, which is built first, or the one at PATH. There are R runs of each job and server (default: 5), S
 # seconds long (default: 5), on a log of M blocks of 4096 bytes (default: 16384) and a home area of H (default: 65536). Run it by hand on a
-# quiet machine: times are no test. It needs Debian's fio, libnbd-bin and python3-libnbd; nbdkit and qemu-utils for what it compares with.
+# quiet machine: times are no test. fio's fsync=16 sends more flushes than one in 16: at these depths nearly one for each write of 4 KiB,
+# and one for each fourth of 1 MiB. It needs Debian's fio, libnbd-bin and python3-libnbd; nbdkit and qemu-utils for what it compares with.
 set -eu
 
 program= runs=5 seconds=5 length=16384 home=65536 folder=/dev/shm
@@ -86,7 +87,7 @@ for job in "randwrite 4k 16 16" "randwrite 4k 16 0" "write 1m 4 0" "write 1m 4 1
 import statistics, sys
 kind, size, depth, flush, folder, *stores = sys.argv[1:]
 figures = {store: statistics.median(map(float, open(f'{folder}/{store}.figures'))) for store in stores}
-name = f'{kind} {size}, {depth} at once' + (f', a flush each {flush}' if flush != '0' else '')
+name = f'{kind} {size}, {depth} at once' + (f', fsync={flush}' if flush != '0' else '')
 print(f'{name:44}', '  '.join(f'{store} {figure:8.0f} a second ({figure / figures[\"jbench\"]:.2f})' for store, figure in figures.items()), flush=True)" \
         "$kind" "$size" "$depth" "$flush" "$folder" $stores
 done
