@@ -10,7 +10,7 @@
 # removed. The program is `./jbench`, which is built first, or the one at PATH. There are R runs of each job and server (default: 5), S
 # seconds long (default: 5), on a log of M blocks of 4096 bytes (default: 16384) and a home area of H (default: 65536). Run it by hand on a
 # quiet machine: times are no test. fio's fsync=16 sends more flushes than one in 16: at these depths nearly one for each write of 4 KiB,
-# and one for each fourth of 1 MiB. It needs Debian's fio, libnbd-bin and python3-libnbd; nbdkit and qemu-utils for what it compares with.
+# and one after each fourth write of 1 MiB. It needs Debian's fio, libnbd-bin and python3-libnbd; nbdkit and qemu-utils for what it compares with.
 set -eu
 
 program= runs=5 seconds=5 length=16384 home=65536 folder=/dev/shm

@@ -4,7 +4,7 @@ model of `serve_rows.py`. It wants no client of NBD. Answers may come in another
 
     serve_streams.py [--program PATH] COUNT SEED
 """
-import argparse, pathlib, random, struct, subprocess, sys, tempfile
+import argparse, pathlib, random, socket, struct, subprocess, sys, tempfile, time
 import serve_rows as model
 
 TOP = pathlib.Path(__file__).resolve().parent.parent
@@ -85,6 +85,34 @@ def serve(program, c):
     return [word for word, same in found.items() if not same]
 
 
+def sent_first(program):
+    """whether a client that reads no answer before it has sent a read and a write of all bytes gets both answers"""
+    c = Connection()
+    c.lengths = {}
+    c.go()
+    begun = len(c.out)
+    c.request(0, 1, 0, model.SIZE)
+    asked = len(c.requests)
+    c.request(1, 2, 0, data=bytes([7]) * model.SIZE).request(2, 3)
+    ours, server = socket.socketpair()
+    with tempfile.TemporaryDirectory() as name:
+        files = [f"{name}/log", f"{name}/home"]
+        subprocess.run([program, "format", *files, "--length", "257", "--home", str(BLOCKS)], check=True, stdout=subprocess.DEVNULL)
+        with subprocess.Popen([program, "serve", *files], stdin=server, stdout=server) as served:
+            server.close()
+            ours.settimeout(20)
+            out = b""
+            try:
+                ours.sendall(c.hello + c.requests[:asked])
+                time.sleep(0.5)
+                ours.sendall(c.requests[asked:])
+                while piece := ours.recv(1 << 20):
+                    out += piece
+            except TimeoutError:
+                served.kill()
+    return answers(out, begun, c.lengths) == answers(c.out, begun, c.lengths)
+
+
 def main():
     a = argparse.ArgumentParser()
     a.add_argument("--program", default=TOP / "jbench")
@@ -97,6 +125,9 @@ def main():
         if differs := serve(a.program, stream(seed)):
             wrong += 1
             print(f"seed {seed}: {', '.join(differs)}", flush=True)
+    if not sent_first(a.program):
+        wrong += 1
+        print("a client that reads no answer before it has sent all: wrong")
     print(f"{a.count} streams, {wrong} wrong")
     return 1 if wrong else 0
 

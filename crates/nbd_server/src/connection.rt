@@ -4,7 +4,7 @@ use crate::buffers::Buffers;
 use crate::done::Done;
 use crate::export::{Export, Volume};
 use crate::handshake::begin;
-use crate::replies::{Answer, Due, LONG_BYTES, Output};
+use crate::replies::{Answer, Due, LONG_BYTES, Outlet, Output};
 use block_device::Device;
 use byte_volume::Stopped;
 use crossbeam_channel::Sender;
@@ -23,6 +23,7 @@ pub(crate) struct Connection<'m, I: Read + Drop, O: Write + Drop> {
     pub(crate) export: Export<'m>,
     pub(crate) input: BufReader<I>,
     pub(crate) out: &'m Output<O>,
+    pub(crate) outlet: Outlet<'m, O>,
     /// The flusher's end of owed answers.
     pub(crate) owed: Sender<Due>,
     /// The sender's end of long answers.
@@ -40,7 +41,7 @@ impl<I: Read + Drop, O: Write + Drop> Connection<'_, I, O> {
         let mut stopped = Stopped::new();
         let mut requests = 0;
         let end = connection.talk(rt, session, &mut stopped, &mut requests);
-        let sent = connection.out.send(rt);
+        let sent = connection.outlet.send(rt);
         Done {
             requests,
             upto: stopped.upto(),
@@ -81,20 +82,21 @@ impl<I: Read + Drop, O: Write + Drop> Connection<'_, I, O> {
         unreachable!()
     }
 
-    /// Sends the answers given so far, if the client has to be waited for before so many of its bytes are here.
-    fn send_before_a_wait<W: Wait>(&self, rt: &W, wanted: usize) -> io::Result<()> {
+    /// Sends what was given, if the client has to be waited for before so many of its bytes are here.
+    fn send_before_a_wait<W: Wait>(&mut self, rt: &W, wanted: usize) -> io::Result<()> {
         if self.input.buffer().len() < wanted {
-            return self.out.send(rt);
+            return self.outlet.send(rt);
         }
         Ok(())
     }
 
-    /// Sends the answers given so far, if a request may take long: all but a flush, and a write whose bytes are here.
-    fn send_before<W: Wait>(&self, rt: &W, request: &Request) -> io::Result<()> {
+    /// Sends what was given before any request but a flush, and a write whose bytes are here. If such a write waits for a commit, so do
+    /// the answers before it.
+    fn send_before<W: Wait>(&mut self, rt: &W, request: &Request) -> io::Result<()> {
         match request.command {
             FLUSH => Ok(()),
             WRITE => self.send_before_a_wait(rt, request.length as usize),
-            _ => self.out.send(rt),
+            _ => self.outlet.send(rt),
         }
     }
 
@@ -119,11 +121,11 @@ impl<I: Read + Drop, O: Write + Drop> Connection<'_, I, O> {
     }
 
     /// Gives an answer, or hands it on: an owed one to the flusher, a long one to the sender.
-    fn give<W: Wait>(&self, rt: &W, answer: Answer) -> io::Result<()> {
+    fn give<W: Wait>(&mut self, rt: &W, answer: Answer) -> io::Result<()> {
         if answer.is_long() {
             return hand_on(rt, &self.long, answer);
         }
-        match self.out.give(rt, answer)? {
+        match self.outlet.give(rt, answer)? {
             Some(due) => hand_on(rt, &self.owed, due),
             None => Ok(()),
         }

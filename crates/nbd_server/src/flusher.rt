@@ -3,7 +3,7 @@ ghost use Rattle.std.specs.Prelude.{◌≡◌, ◌++◌, [], ◌∷◌, OnOk};
 ghost use Rattle.nbd_server.specs.Answers.{Releases};
 
 use crate::done::{Committed, Done};
-use crate::replies::{Answer, Due, Output, Reply, error_of};
+use crate::replies::{Answer, Due, Outlet, Reply, error_of};
 use block_device::Device;
 use byte_volume::Committed as Receipt;
 use crossbeam_channel::Receiver;
@@ -18,7 +18,7 @@ use volume_service::Session;
 #[derive(Drop)]
 pub(crate) struct Flusher<'m, O: Write + Drop> {
     pub(crate) alloc: Global,
-    pub(crate) out: &'m Output<O>,
+    pub(crate) outlet: Outlet<'m, O>,
     /// The owed answers.
     pub(crate) owed: Receiver<Due>,
     /// How many answers are recorded.
@@ -32,19 +32,21 @@ impl<O: Write + Drop> Flusher<'_, O> {
         rt: &W,
         session: &mut Session<'_, J, D, R>,
     ) -> Done {
-        let mut committed = Vec::new(self.alloc);
-        let end = self.release_all(rt, session, &mut committed);
+        let mut flusher = self;
+        let mut committed = Vec::new(flusher.alloc);
+        let end = flusher.release_all(rt, session, &mut committed);
+        let sent = flusher.outlet.send(rt);
         Done {
             requests: 0,
             upto: Tid(0),
             committed,
-            end,
+            end: end.and(sent),
         }
     }
 
     /// As `run`, and records answers. Those of one commit are sent together.
     fn release_all<J: JournalName, D: Device, R: Record, W: Wait>(
-        &self,
+        &mut self,
         rt: &W,
         session: &mut Session<'_, J, D, R>,
         committed: &mut Vec<Committed>,
@@ -55,13 +57,15 @@ impl<O: Write + Drop> Flusher<'_, O> {
                 break;
             };
             if reached.0 < due.upto().0 {
-                self.out.send(rt)?;
-                reached = due.upto();
+                self.outlet.send(rt)?;
             }
             let (reply, is_committed) = release(rt, session, &due);
-            self.out.give(rt, Answer::Now(reply))?;
+            if is_committed {
+                reached = due.upto();
+            }
+            self.outlet.give(rt, Answer::Now(reply))?;
             if self.owed.is_empty() {
-                self.out.send(rt)?;
+                self.outlet.send(rt)?;
             }
             if is_committed && committed.len() < self.keep {
                 register(committed, &due)?;

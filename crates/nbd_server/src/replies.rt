@@ -280,6 +280,39 @@ impl<O: Write + Drop> Output<O> {
     }
 }
 
+/// A task's way to the output. It sends only if it gave an answer since: who sends waits for the answer that is being written.
+#[derive(Drop)]
+pub(crate) struct Outlet<'m, O: Write + Drop> {
+    out: &'m Output<O>,
+    /// Whether it gave an answer that it did not send.
+    unsent: bool,
+}
+
+impl<'m, O: Write + Drop> Outlet<'m, O> {
+    /// Nothing is given yet.
+    pub(crate) fn new(out: &'m Output<O>) -> Self {
+        Outlet { out, unsent: false }
+    }
+
+    /// Gives an answer, or returns it if it is owed.
+    pub(crate) fn give<W: Wait>(&mut self, rt: &W, answer: Answer) -> io::Result<Option<Due>> {
+        let owed = self.out.give(rt, answer)?;
+        if owed.is_none() {
+            self.unsent = true;
+        }
+        Ok(owed)
+    }
+
+    /// Sends what it gave.
+    pub(crate) fn send<W: Wait>(&mut self, rt: &W) -> io::Result<()> {
+        if !self.unsent {
+            return Ok(());
+        }
+        self.unsent = false;
+        self.out.send(rt)
+    }
+}
+
 /// The error number for a refusal.
 pub(crate) fn error_of(refusal: JournalError) -> u32
     ensures { result ≢ 0 }

@@ -7,7 +7,7 @@ use crate::connection::Connection;
 use crate::done::Done;
 use crate::export::Export;
 use crate::flusher::Flusher;
-use crate::replies::Output;
+use crate::replies::{Outlet, Output};
 use crate::sender::LongAnswers;
 use block_device::Device;
 use crossbeam_channel::bounded;
@@ -122,12 +122,13 @@ fn parts<'m, I: Read + Drop, O: Write + Drop>(
         export,
         input,
         out,
+        outlet: Outlet::new(out),
         owed: to_flusher,
         long: to_sender,
     }))?;
     parts.push(Part::Flusher(Flusher {
         alloc,
-        out,
+        outlet: Outlet::new(out),
         owed,
         keep,
     }))?;

@@ -1,4 +1,5 @@
-//! A client that sends a part of its bytes once it has all answers to those before.
+//! A client that gives the next part of its bytes only if no answer waits to be sent. A row with parts has no answers of other tasks: these
+//! may wait for a moment when the connection reads on.
 use crate::given::Given;
 use std::io;
 use std::io::{ErrorKind, Read, Write};

@@ -1,5 +1,5 @@
 //! Reads a row: a line `serves` with `readonly` or `writable` and a name, a line `hello` with the client's bytes before its first request,
-//! and a line `requests` with the rest. If more lines follow, the client sends each once it has all answers to those before.
+//! and a line `requests` with the rest. If more lines follow, the client gives each only if no answer waits to be sent.
 use crate::spelling::bytes_of;
 use log_rows::RowError;
 use log_rows::words::cut;
