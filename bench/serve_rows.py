@@ -33,6 +33,7 @@ class Connection:
         self.end = "malformed" if flags and struct.unpack(">I", flags)[0] > 3 else "well"
         self.out = b"NBDMAGICIHAVEOPT" + struct.pack(">H", 3)
         self.home = bytearray(SIZE)
+        self.changed, self.filled, self.may_be_home = set(), set(), False
 
     def flags(self):
         return 1 | 4 | 8 | 32 | 64 | (2 if self.read_only else 0)
@@ -122,14 +123,22 @@ class Connection:
         if command == 0:
             self.reply(0, cookie, bytes(self.home[offset : offset + length]))
             return self
+        if command in (1, 4, 6):
+            self.changed.update(range(offset // BLOCK, -(-(offset + length) // BLOCK)))
         if command in (1, 6):
             self.home[offset : offset + length] = data if command == 1 else bytes(length)
+        if command == 1:
+            self.filled.update(range(offset // BLOCK, -(-(offset + length) // BLOCK)))
         if command == 4:
-            # the rows trim only what was not home yet: both until the commit and after it such a block reads zeros
             first, past = -(-offset // BLOCK) * BLOCK, (offset + length) // BLOCK * BLOCK
+            # a trimmed block reads as home holds it, and a checkpoint may come at any time after a commit
+            if self.may_be_home and any(first <= k * BLOCK < past for k in self.filled):
+                raise ValueError("a row trims a block that home may hold, zeros or not")
             self.home[first:past] = bytes(max(past - first, 0))
         if command == 3 or flags & FUA:
             self.committed.append(cookie)
+        # a commit begins at a flush, or once half of the credits are used
+        self.may_be_home |= command == 3 or flags & FUA > 0 or 2 * len(self.changed) >= CAPACITY
         self.reply(0, cookie)
         return self
 
@@ -202,7 +211,7 @@ def streams():
 def waits():
     c = Connection
     yield "writes and reads, each after the answer to the one before", c().go().request(1, 1, 1024, data=b"A" * 2048).request(0, 2, 0, 4096).request(1, 3, 1500, data=b"B" * 1500).request(1, 4, 9, data=b"C").request(0, 5, 0, 4096).request(2, 6)
-    yield "zeros, trims and requests without bytes", c().go().request(1, 1, 0, data=b"A" * 4096).request(6, 2, 700, 1400).request(4, 3, 1000, 2000).request(6, 4, 7).request(4, 5, 7).request(0, 6, 0, 5000).request(2, 7)
+    yield "zeros, trims and requests without bytes", c().go().request(1, 1, 0, data=b"A" * 1024).request(1, 2, 2048, data=b"A" * 2048).request(6, 3, 700, 1400).request(4, 4, 1000, 2000).request(6, 5, 7).request(4, 6, 7).request(0, 7, 0, 5000).request(2, 8)
     yield "refusals", c().go().request(1, 1, SIZE - 5, data=b"0123456789").request(4, 2, SIZE, 1).request(0, 3, 0, MOST + 1).request(99, 4).request(1, 5, 0, data=b"A").request(2, 6)
     yield "the client ends while it waits", c().go().request(1, 1, 0, data=b"A" * 1024).request(1, 2, 1024, data=b"B" * 1024)
     yield "wrong on purpose: the second of two answers is missing", c().go().request(1, 1, 0, data=b"A" * 1024).request(1, 2, 1024, data=b"B" * 1024).request(2, 3)
