@@ -2,15 +2,16 @@
 # Requests a second of `jbench serve` beside `nbdkit file` and `qemu-nbd`, whichever of these two are there: fio with its engine nbd over a
 # socket of the file system. The server of `jbench` has the socket itself as its standard input and output. The two others serve a plain file of
 # the same size. Each server is measured in turn, so many times, and the median of each is told, after the machine, the file system, the
-# versions and what the load was.
+# versions and what the load was. The first job is `flushed_writes.c`: fio's fsync=16 sends more flushes than one in 16, at these depths nearly
+# one for each write of 4 KiB, and one after each fourth write of 1 MiB.
 #
 # usage: bench/nbd.sh [--program PATH] [--runs R] [--seconds S] [--length M] [--home H] [FOLDER]
 #
 # FOLDER (default: /dev/shm, a memory file system; name one on a disk for that) is where the files are made, in a folder of its own that is
 # removed. The program is `./jbench`, which is built first, or the one at PATH. There are R runs of each job and server (default: 5), S
 # seconds long (default: 5), on a log of M blocks of 4096 bytes (default: 16384) and a home area of H (default: 65536). Run it by hand on a
-# quiet machine: times are no test. fio's fsync=16 sends more flushes than one in 16: at these depths nearly one for each write of 4 KiB,
-# and one after each fourth write of 1 MiB. It needs Debian's fio, libnbd-bin and python3-libnbd; nbdkit and qemu-utils for what it compares with.
+# quiet machine: times are no test. It needs cc, and Debian's fio, libnbd-bin and python3-libnbd; nbdkit and qemu-utils for what it compares
+# with.
 set -eu
 
 program= runs=5 seconds=5 length=16384 home=65536 folder=/dev/shm
@@ -38,6 +39,7 @@ program=${program:-$here/../jbench}
 folder=$(mktemp -d "$folder/nbd.XXXXXX")
 trap 'kill $(jobs -p) 2>/dev/null || true; wait; rm -rf "$folder"' EXIT
 "$program" format "$folder/log" "$folder/home" --block 4096 --length "$length" --home "$home" >/dev/null
+cc -O2 -o "$folder/flushed_writes" "$here/flushed_writes.c"
 # Both are written, so that no server meets holes.
 head -c "$((home * 4096))" /dev/zero >"$folder/plain"
 sync "$folder/plain"
@@ -63,6 +65,10 @@ done
 
 # One run of a job with a server: its requests a second.
 run() {
+    if [ "$2" = flushed ]; then
+        "$folder/flushed_writes" "$folder/$1" "$seconds"
+        return
+    fi
     fio --name=job --ioengine=nbd --uri="nbd+unix:///?socket=$folder/$1" --rw="$2" --bs="$3" --iodepth="$4" --fsync="$5" \
         --size="$((home * 4096))" --time_based --runtime="$seconds" --output-format=json >"$folder/fio.json" 2>"$folder/fio.said" ||
         { cat "$folder/fio.said" >&2 && exit 1; }
@@ -74,7 +80,8 @@ assert job['error'] == 0
 print(job['write' if 'write' in sys.argv[2] else 'read']['iops'])" "$folder/fio.json" "$2"
 }
 
-for job in "randwrite 4k 16 16" "randwrite 4k 16 0" "write 1m 4 0" "write 1m 4 16" "randread 4k 16 0" "read 1m 4 0"; do
+# The first job's words only name it: its client has these numbers.
+for job in "flushed 4k 16 16" "randwrite 4k 16 16" "randwrite 4k 16 0" "write 1m 4 0" "write 1m 4 16" "randread 4k 16 0" "read 1m 4 0"; do
     for store in $stores; do : >"$folder/$store.figures"; done
     for ((i = 0; i < runs; i++)); do
         for store in $stores; do
@@ -88,6 +95,8 @@ import statistics, sys
 kind, size, depth, flush, folder, *stores = sys.argv[1:]
 figures = {store: statistics.median(map(float, open(f'{folder}/{store}.figures'))) for store in stores}
 name = f'{kind} {size}, {depth} at once' + (f', fsync={flush}' if flush != '0' else '')
+if kind == 'flushed':
+    name = f'randwrite {size}, {depth} at once, a flush after {flush}'
 print(f'{name:44}', '  '.join(f'{store} {figure:8.0f} a second ({figure / figures[\"jbench\"]:.2f})' for store, figure in figures.items()), flush=True)" \
         "$kind" "$size" "$depth" "$flush" "$folder" $stores
 done

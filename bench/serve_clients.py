@@ -350,7 +350,7 @@ def fio(program, folder, cases):
         volume = Volume(program, folder, 4096, 1024, 4096)
         with Listener(Path(folder) / "socket", volume.words()) as at:
             words = ["--ioengine=nbd", f"--uri={at.uri}", "--rw=randwrite", f"--iodepth={depth}", f"--fsync={fsync}", "--size=16m", "--randseed=1"]
-            words += [f"--bsrange={size}" if "-" in size else f"--bs={size}", "--verify=crc32c", "--do_verify=1", "--verify_fatal=1"]
+            words += [f"--bsrange={size}" if "-" in size else f"--bs={size}", "--verify=crc32c", "--do_verify=1", "--verify_fatal=1", "--verify_state_save=0"]
             words += ["--number_ios=2000"] if size == "512" else []
             said = run("fio", "--name=verify", *words, "--output-format=json")
             job = json.loads(said[said.index("{") :])["jobs"][0]
