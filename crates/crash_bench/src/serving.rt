@@ -14,7 +14,7 @@ use recovery::Opened;
 use shared_journal::{UnnamedJournal, Unrecorded, create};
 use std::alloc::Global;
 use std::io;
-use std::io::{Read, Write};
+use std::io::{ErrorKind, Read, Write};
 use std::sync::Wait;
 use std::thread::Threads;
 
@@ -117,7 +117,15 @@ fn say_done<D: Drop, E: Write>(done: Done, left: D, err: &mut E) -> io::Result<O
     match done.end {
         Ok(()) => Ok(Some(left)),
         Err(e) => {
-            writeln!(err, "jbench: client: {e}")?;
+            match e.kind() {
+                ErrorKind::UnexpectedEof => {
+                    writeln!(err, "jbench: client: it ended within a message")?;
+                }
+                ErrorKind::InvalidData => {
+                    writeln!(err, "jbench: client: it sent bytes that are no message")?;
+                }
+                _ => writeln!(err, "jbench: client: {e}")?,
+            }
             Ok(None)
         }
     }

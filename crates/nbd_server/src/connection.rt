@@ -4,7 +4,7 @@ use crate::buffers::Buffers;
 use crate::done::Done;
 use crate::export::{Export, Volume};
 use crate::handshake::begin;
-use crate::replies::{Answer, Due, LONG_BYTES, Outlet, Output};
+use crate::replies::{Answer, Due, LONG_BYTES, Outlet};
 use block_device::Device;
 use byte_volume::Stopped;
 use crossbeam_channel::Sender;
@@ -22,7 +22,6 @@ pub(crate) struct Connection<'m, I: Read + Drop, O: Write + Drop> {
     pub(crate) alloc: Global,
     pub(crate) export: Export<'m>,
     pub(crate) input: BufReader<I>,
-    pub(crate) out: &'m Output<O>,
     pub(crate) outlet: Outlet<'m, O>,
     /// The flusher's end of owed answers.
     pub(crate) owed: Sender<Due>,
@@ -71,7 +70,7 @@ impl<I: Read + Drop, O: Write + Drop> Connection<'_, I, O> {
             self.send_before(rt, &request)?;
             let (alloc, read_only) = (self.alloc, self.export.read_only);
             if is_long_read(&request) {
-                self.out.lend(rt, &mut buffers.read);
+                self.outlet.out.lend(rt, &mut buffers.read);
             }
             let (input, buffers) = (&mut self.input, &mut buffers);
             let given = answer(
@@ -116,7 +115,7 @@ impl<I: Read + Drop, O: Write + Drop> Connection<'_, I, O> {
             size: volume_bytes(session),
             block_size,
         };
-        let (alloc, out) = (self.alloc, self.out);
+        let (alloc, out) = (self.alloc, self.outlet.out);
         out.shake_hands(rt, alloc, &mut self.input, &volume)
     }
 

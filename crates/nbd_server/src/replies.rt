@@ -283,7 +283,7 @@ impl<O: Write + Drop> Output<O> {
 /// A task's way to the output. It sends only if it gave an answer since: who sends waits for the answer that is being written.
 #[derive(Drop)]
 pub(crate) struct Outlet<'m, O: Write + Drop> {
-    out: &'m Output<O>,
+    pub(crate) out: &'m Output<O>,
     /// Whether it gave an answer that it did not send.
     unsent: bool,
 }

@@ -121,7 +121,6 @@ fn parts<'m, I: Read + Drop, O: Write + Drop>(
         alloc,
         export,
         input,
-        out,
         outlet: Outlet::new(out),
         owed: to_flusher,
         long: to_sender,
