@@ -18,13 +18,18 @@ pub struct Shared<'s, J: JournalName, D: Device, R: Record, G> {
 impl<J: JournalName, D: Device, R: Record, G> Shared<'_, J, D, R, G> {
     /// Locks the running transaction and takes commit turns, until one is committed or none is due. It sleeps for
     /// nobody: where a handle is open, the ring lacks room or a turn is refused, the rest is left to the commit worker.
-    pub fn lead<W: Wait>(&self, rt: &W) {
+    /// It returns how many device calls it made.
+    pub fn lead<W: Wait>(&self, rt: &W) -> u64 {
+        let mut steps: u64 = 0;
         if self.journal.lock(rt).is_err() {
-            return;
+            return steps;
         }
         for _ in rt.forever() {
             match self.journal.commit_turn(rt) {
-                Ok(Turn::Step) => self.signals.count_step(),
+                Ok(Turn::Step) => {
+                    self.signals.count_step();
+                    steps = steps.saturating_add(1);
+                }
                 Ok(Turn::Sealed(_)) => self.signals.changes.notify(),
                 Ok(Turn::Committed(_)) => {
                     self.signals.changes.notify();
@@ -37,6 +42,25 @@ impl<J: JournalName, D: Device, R: Record, G> Shared<'_, J, D, R, G> {
                 }
             }
         }
+        steps
+    }
+
+    /// Makes a round in parts once much of the ring may be used: takes as many checkpoint turns as a commit made device calls, until the
+    /// round is over. If the checkpoint worker made it meanwhile, both would wake each other every few blocks, since each turn locks the
+    /// engine. So once that one is asked, the rest of the round is left to it. Two that make parts at once do so too, and no other harm.
+    pub fn keep_room<W: Wait>(&self, rt: &W, turns: u64) -> Result<(), JournalError> {
+        if self.wants_round() && self.signals.parts.open() {
+            self.signals.forget_steps();
+        }
+        for _ in 0..turns {
+            if !self.signals.parts.is_open() {
+                break;
+            }
+            if !self.step_round(rt)? {
+                self.signals.parts.close();
+            }
+        }
+        Ok(())
     }
 
     /// Takes a checkpoint turn. It returns whether the round goes on.
@@ -47,9 +71,11 @@ impl<J: JournalName, D: Device, R: Record, G> Shared<'_, J, D, R, G> {
         }
     }
 
-    /// Whether about half of the ring may be used: a transaction takes at most a quarter of it, and a few blocks more than the capacity.
-    pub fn wants_round(&self) -> bool {
-        self.signals.steps.load(Ordering::SeqCst) / 2 >= self.journal.capacity()
+    /// Whether about three eighths of the ring may be used: a transaction takes at most a quarter of it, and a few blocks more than the
+    /// capacity. As commits go on, a round that begins then is mostly over before the ring lacks room.
+    fn wants_round(&self) -> bool {
+        let capacity = self.journal.capacity();
+        self.signals.steps.load(Ordering::SeqCst) >= capacity.saturating_add(capacity / 2)
     }
 }
 
@@ -64,8 +90,6 @@ pub enum Wake {
     HalfFull,
     /// A handle has stopped, and somebody waits.
     Stopped,
-    /// A client has taken commit turns, and about half of the ring may be used.
-    HalfRing,
 }
 
 /// How threads notify each other.
@@ -75,8 +99,10 @@ pub struct Signals {
     pub changes: EventCounter,
     /// Counts rounds of the checkpoint worker that are over.
     pub room: EventCounter,
-    /// A round, until it begins.
+    /// A whole round, until it begins.
     pub(crate) round: Request,
+    /// A round in parts, until it is over or left to the checkpoint worker.
+    pub(crate) parts: Request,
     /// Device calls of commits since a round was last begun or requested for them.
     steps: AtomicU64,
     /// A commit because half of the credits are used, until the worker begins to look.
@@ -92,6 +118,7 @@ impl Signals {
             changes: EventCounter::new(),
             room: EventCounter::new(),
             round: Request::new(),
+            parts: Request::new(),
             steps: AtomicU64::new(0),
             half_full: Request::new(),
             waiting: AtomicU64::new(0),
@@ -125,7 +152,7 @@ impl Signals {
     }
 }
 
-/// A request to a worker, of which one at most is open.
+/// A request of which one at most is open.
 #[derive(Drop)]
 pub struct Request {
     /// 1 while it is open.
@@ -140,14 +167,19 @@ impl Request {
         }
     }
 
-    /// Opens the request. It returns whether to send it to the worker: not if an earlier one is still open.
+    /// Opens the request. It returns whether it was closed: if not, the earlier one stands for both.
     pub fn open(&self) -> bool {
         self.is_open
             .compare_exchange(0, 1, Ordering::SeqCst, Ordering::SeqCst)
             .is_ok()
     }
 
-    /// Closes the request: the worker begins to answer it, or was not woken.
+    /// Whether it is open.
+    pub(crate) fn is_open(&self) -> bool {
+        self.is_open.load(Ordering::SeqCst) != 0
+    }
+
+    /// Closes the request: it is answered, or nobody was woken for it.
     pub fn close(&self) {
         self.is_open.store(0, Ordering::SeqCst);
     }

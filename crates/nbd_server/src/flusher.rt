@@ -57,7 +57,7 @@ impl<O: Write + Drop> Flusher<'_, O> {
                 break;
             };
             if reached.0 < due.upto().0 {
-                self.outlet.send(rt)?;
+                self.send(rt, session)?;
             }
             let (reply, is_committed) = release(rt, session, &due);
             if is_committed {
@@ -65,12 +65,23 @@ impl<O: Write + Drop> Flusher<'_, O> {
             }
             self.outlet.give(rt, Answer::Now(reply))?;
             if self.owed.is_empty() {
-                self.outlet.send(rt)?;
+                self.send(rt, session)?;
             }
             if is_committed && committed.len() < self.keep {
                 register(committed, &due)?;
             }
         }
+        Ok(())
+    }
+
+    /// Sends what was given, and only then keeps room for later commits.
+    fn send<J: JournalName, D: Device, R: Record, W: Wait>(
+        &mut self,
+        rt: &W,
+        session: &mut Session<'_, J, D, R>,
+    ) -> io::Result<()> {
+        self.outlet.send(rt)?;
+        session.keep_room(rt);
         Ok(())
     }
 }
