@@ -29,7 +29,7 @@ class Connection:
         self.no_zeroes = no_zeroes
         self.hello = struct.pack(">I", 3 if no_zeroes else 1) if flags is None else flags
         self.requests, self.committed, self.count = b"", [], 0
-        self.asked = []
+        self.parts, self.left = [], False
         self.end = "malformed" if flags and struct.unpack(">I", flags)[0] > 3 else "well"
         self.out = b"NBDMAGICIHAVEOPT" + struct.pack(">H", 3)
         self.home = bytearray(SIZE)
@@ -106,14 +106,16 @@ class Connection:
             return 22 if flags > (3 if command == 6 else 1) or command == 1 and length > MOST else 0
         return 22
 
-    def request(self, command, cookie, offset=0, length=0, data=b"", flags=0, magic=0x25609513):
+    def request(self, command, cookie, offset=0, length=0, data=b"", flags=0, magic=0x25609513, alone=True):
         length = length or len(data)
+        if alone:
+            self.parts.append((len(self.requests), len(self.out)))
         self.requests += struct.pack(">IHHQQI", magic, flags, command, cookie, offset, length) + data
-        self.asked.append(len(self.requests))
         if magic != 0x25609513:
             self.end = "malformed"
             return self
         if command == 2:
+            self.left = True
             return self
         self.count += 1
         error = self.refusal(command, offset, length, flags)
@@ -153,8 +155,10 @@ class Connection:
             ("readonly " if self.read_only else "writable ") + self.name.decode(), spell(self.hello), spell(self.requests))
 
     def given_apart(self):
-        """as `given`, with a line for each request"""
-        lines = [spell(self.requests[a:b])[1:] for a, b in zip([0] + self.asked, self.asked)]
+        """as `given`, with a line for each part: the client gives it once it has all answers to those before it"""
+        ends = [a for a, _ in self.parts[1:]] + [len(self.requests)]
+        lines = ["after %d%s" % (after, spell(self.requests[a:b])) for (a, after), b in zip(self.parts, ends)]
+        lines += [] if self.left else ["after %d" % len(self.out)]
         return "serves %s\nhello%s\nrequests\n%s" % (
             ("readonly " if self.read_only else "writable ") + self.name.decode(), spell(self.hello), "\n".join(lines))
 
@@ -213,6 +217,20 @@ def waits():
     yield "writes and reads, each after the answer to the one before", c().go().request(1, 1, 1024, data=b"A" * 2048).request(0, 2, 0, 4096).request(1, 3, 1500, data=b"B" * 1500).request(1, 4, 9, data=b"C").request(0, 5, 0, 4096).request(2, 6)
     yield "zeros, trims and requests without bytes", c().go().request(1, 1, 0, data=b"A" * 1024).request(1, 2, 2048, data=b"A" * 2048).request(6, 3, 700, 1400).request(4, 4, 1000, 2000).request(6, 5, 7).request(4, 6, 7).request(0, 7, 0, 5000).request(2, 8)
     yield "refusals", c().go().request(1, 1, SIZE - 5, data=b"0123456789").request(4, 2, SIZE, 1).request(0, 3, 0, MOST + 1).request(99, 4).request(1, 5, 0, data=b"A").request(2, 6)
+    one = c().go()
+    for k in range(20):
+        one.request(1, 2 * k + 1, 1024 * (k * 7 % 20) + 300, data=bytes([0x41 + k]) * 1200).request(3, 2 * k + 2)
+    yield "a flush after each write, over several laps of the ring", one.request(0, 41, 0, 22 * 1024).request(2, 42)
+    two = c().go()
+    for k in range(4):
+        for i in range(5):
+            two.request(1, 10 * k + i + 1, 1024 * (3 * k + i), data=bytes([0x41 + 5 * k + i]) * 1024, alone=i == 0)
+        two.request(3, 10 * k + 6, alone=False)
+    yield "five writes and a flush sent together", two.request(0, 50, 0, 16 * 1024).request(2, 51)
+    three = c().go().request(4, 1, 1024 * 9, 2048, flags=1)
+    for k in range(4):
+        three.request(1, 2 * k + 2, 1024 * k + 700, data=bytes([0x41 + k]) * 3000, flags=1).request(6, 2 * k + 3, 1024 * k + 900, 600, flags=1)
+    yield "changes with FUA", three.request(0, 10, 0, 8 * 1024).request(2, 11)
     yield "the client ends while it waits", c().go().request(1, 1, 0, data=b"A" * 1024).request(1, 2, 1024, data=b"B" * 1024)
     yield "wrong on purpose: the second of two answers is missing", c().go().request(1, 1, 0, data=b"A" * 1024).request(1, 2, 1024, data=b"B" * 1024).request(2, 3)
 
@@ -249,7 +267,7 @@ if __name__ == "__main__":
                 wanted = wanted.replace(spell(struct.pack(">IIQ", 0x67446698, 0, 7))[1:], spell(struct.pack(">IIQ", 0x67446698, 5, 7))[1:])
             f.write("\n== %s\n%s\n-->\n%s\n" % (name, c.given(), wanted))
     with open(folder + "/waits.rows", "w") as f:
-        f.write("# A client that sends each request once it has the answer to the one before. No answer may wait while the server reads on.\nrows waits\n")
+        f.write("# A client that sends more only once it has all answers to what it sent.\nrows waits\n")
         for name, c in waits():
             wanted = c.wanted()
             if name.startswith("wrong on purpose"):

@@ -1,50 +1,58 @@
-//! A client that gives the next part of its bytes only if no answer waits to be sent. A row with parts has no answers of other tasks: these
-//! may wait for a moment when the connection reads on.
+//! A client that gives each part of its bytes once it has the answers that the part waits for.
 use crate::given::Given;
-use std::io;
 use std::io::{ErrorKind, Read, Write};
-use std::sync::atomic::{AtomicBool, Ordering};
+use std::sync::atomic::{AtomicUsize, Ordering};
+use std::{io, thread};
 
-/// The client's bytes. If a row gives them in several parts, a read fails while an answer waits to be sent.
+/// How often a client looks whether it has an answer.
+const LOOKS: u64 = 2_000_000;
+
+/// The client's bytes. A read fails if the answers do not come that the next part waits for.
 #[derive(Drop)]
 pub struct Client<'a> {
     given: &'a Given<'a>,
     at: usize,
-    waits: &'a AtomicBool,
+    sent: &'a AtomicUsize,
 }
 
 impl<'a> Client<'a> {
-    /// `waits` is what its answers set.
-    pub fn new(given: &'a Given<'a>, waits: &'a AtomicBool) -> Client<'a> {
-        Client {
-            given,
-            at: 0,
-            waits,
-        }
+    /// `sent` is what its answers count.
+    pub fn new(given: &'a Given<'a>, sent: &'a AtomicUsize) -> Client<'a> {
+        Client { given, at: 0, sent }
     }
 
-    /// The rest of the part that comes next.
-    fn part(&self) -> &'a [u8] {
+    /// The rest of the part that comes next, and for how many bytes of answers it waits.
+    fn next(&self) -> (&'a [u8], usize) {
         let given = self.given;
-        let mut end = given.stream.len();
-        for one in given.ends.iter().rev() {
-            if self.at < *one {
-                end = *one;
+        let (mut end, mut after) = (given.stream.len(), 0);
+        for part in given.parts.iter() {
+            if part.from <= self.at {
+                after = part.after;
+            } else {
+                end = end.min(part.from);
             }
         }
-        match given.stream.get(self.at..end) {
-            Some(part) => part,
-            None => &[],
+        (given.stream.get(self.at..end).unwrap_or(&[]), after)
+    }
+
+    /// Waits for so many bytes of answers; whether they came.
+    fn has(&self, bytes: usize) -> bool {
+        for _ in 0..LOOKS {
+            if self.sent.load(Ordering::SeqCst) >= bytes {
+                return true;
+            }
+            thread::yield_now();
         }
+        false
     }
 }
 
 impl Read for Client<'_> {
     fn read(&mut self, buf: &mut [u8]) -> io::Result<usize> {
-        if self.given.ends.len() > 1 && self.waits.load(Ordering::SeqCst) {
+        let (part, after) = self.next();
+        if !self.has(after) {
             return Err(io::Error::from(ErrorKind::WouldBlock));
         }
-        let part = self.part();
         let count = part.len().min(buf.len());
         buf[..count].copy_from_slice(&part[..count]);
         self.at = self.at.saturating_add(count);
@@ -56,30 +64,21 @@ impl Read for Client<'_> {
 #[derive(Drop)]
 pub struct Answers<'a> {
     bytes: Vec<u8>,
-    sent: usize,
-    /// Whether some wait to be sent.
-    waits: &'a AtomicBool,
+    /// How many of the bytes were sent.
+    sent: &'a AtomicUsize,
 }
 
 impl<'a> Answers<'a> {
     /// None yet, with room in `bytes`.
-    pub fn new(bytes: Vec<u8>, waits: &'a AtomicBool) -> Answers<'a> {
-        Answers {
-            bytes,
-            sent: 0,
-            waits,
-        }
+    pub fn new(bytes: Vec<u8>, sent: &'a AtomicUsize) -> Answers<'a> {
+        Answers { bytes, sent }
     }
 
     /// The bytes that were sent.
     pub fn into_sent(self) -> Vec<u8> {
-        let Answers {
-            bytes,
-            sent,
-            waits: _,
-        } = self;
+        let Answers { bytes, sent } = self;
         let mut bytes = bytes;
-        bytes.truncate(sent);
+        bytes.truncate(sent.load(Ordering::SeqCst));
         bytes
     }
 }
@@ -87,13 +86,11 @@ impl<'a> Answers<'a> {
 impl Write for Answers<'_> {
     fn write(&mut self, buf: &[u8]) -> io::Result<usize> {
         self.bytes.extend_from_slice(buf)?;
-        self.waits.store(true, Ordering::SeqCst);
         Ok(buf.len())
     }
 
     fn flush(&mut self) -> io::Result<()> {
-        self.sent = self.bytes.len();
-        self.waits.store(false, Ordering::SeqCst);
+        self.sent.store(self.bytes.len(), Ordering::SeqCst);
         Ok(())
     }
 }

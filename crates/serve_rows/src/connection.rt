@@ -12,7 +12,7 @@ use std::alloc::Global;
 use std::fmt::Write;
 use std::io::ErrorKind;
 use std::sync::Wait;
-use std::sync::atomic::AtomicBool;
+use std::sync::atomic::AtomicUsize;
 use std::thread::Threads;
 
 /// In bytes.
@@ -55,13 +55,13 @@ pub fn serve_on<D: Device + Send + Drop, T: Threads + Wait + Sync>(
     let Ok(unnamed) = UnnamedJournal::<D, Unrecorded>::open(alloc, device) else {
         return Err(RowError::Unread);
     };
-    let waits = AtomicBool::new(false);
-    let out = Output::new(Answers::new(Vec::new(alloc), &waits));
+    let sent = AtomicUsize::new(0);
+    let out = Output::new(Answers::new(Vec::new(alloc), &sent));
     let export = Export {
         name: given.name,
         read_only: given.read_only,
     };
-    let client = Client::new(given, &waits);
+    let client = Client::new(given, &sent);
     let Ok(served) = serve(threads, alloc, unnamed, export, KEEP, client, &out) else {
         return Err(RowError::Memory);
     };

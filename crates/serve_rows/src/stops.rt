@@ -79,13 +79,13 @@ fn model_of(alloc: Global, given: &Given<'_>, home: Vec<u8>) -> Result<Model, Ro
         if rest.len() < REQUEST_BYTES {
             break;
         }
-        let (head, behind) = rest.split_at(REQUEST_BYTES);
+        let (head, after) = rest.split_at(REQUEST_BYTES);
         let Some(request) = Request::read(head) else {
             return Err(RowError::Unread);
         };
-        rest = behind;
+        rest = after;
         if request.command == WRITE || request.command == WRITE_ZEROES {
-            rest = change(&mut now, &request, behind)?;
+            rest = change(&mut now, &request, after)?;
             model.changed(request.cookie, &now)?;
         }
         if request.wants_commit() {
@@ -99,7 +99,7 @@ fn model_of(alloc: Global, given: &Given<'_>, home: Vec<u8>) -> Result<Model, Ro
 fn change<'a>(
     home: &mut Vec<u8>,
     request: &Request,
-    behind: &'a [u8],
+    after: &'a [u8],
 ) -> Result<&'a [u8], RowError> {
     let (from, length) = (request.offset as usize, request.length as usize);
     let Some(room) = home
@@ -110,9 +110,9 @@ fn change<'a>(
     };
     if request.command == WRITE_ZEROES {
         room.fill(0);
-        return Ok(behind);
+        return Ok(after);
     }
-    let Some((bytes, rest)) = behind.split_at_checked(length) else {
+    let Some((bytes, rest)) = after.split_at_checked(length) else {
         return Err(RowError::Unread);
     };
     room.copy_from_slice(bytes);
