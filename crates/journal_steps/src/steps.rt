@@ -32,6 +32,7 @@ use log_engine::{Engine, Progress};
 /// # Errors
 ///
 /// `Revoked` (the entry is a revoke), `Memory`, only if the front holds a copy.
+/// Source: journalling.rst (handles see the running transaction).
 pub fn held_copy<R: Record>(front: &Front<R>, block: BlockNo) -> Result<Option<Block>, JournalError>
     ensures ok { IfOk result (λ copy. last_effect block (unfinished front.now) ≡ option_map Copy copy) }
     ensures err { IfErr result (NoCopy front.now block) }
@@ -49,6 +50,7 @@ pub fn held_copy<R: Record>(front: &Front<R>, block: BlockNo) -> Result<Option<B
 /// # Errors
 ///
 /// `Memory`: nothing changes.
+/// Source: this project's own.
 pub fn register_read<R: Record>(
     front: &mut Front<R>,
     handle: &Handle,
