@@ -20,7 +20,7 @@ use std::thread::Threads;
 
 /// Opens a device's log, serves the client on `input` and `out` until it ends, and closes the journal. `err` gets the opening's report,
 /// then the number of requests and the last transaction. The device comes back only if the journal was closed; the client must have ended
-/// between two requests. Otherwise a line on `err` has the reason.
+/// between two messages. Otherwise a line on `err` has the reason.
 ///
 /// # Errors
 ///

@@ -239,9 +239,10 @@ pub(crate) const THREADS: Usage = Usage {
     about: "Runs the clients of a script, each in a thread of its own over one journal, and judges what came of them",
     after_help: "\
 The journal is over a disk in memory. One thread commits, so that handles of
-several clients come to one commit; another writes home. When all clients have
-ended it prints 'clients N', 'handles N' and 'receipts N': how many clients,
-starts and waits the script has. Four verdicts follow, each 'ok' or 'false':
+several clients come to one commit, and writes home after commits; another makes
+room where the log has none. When all clients have ended it prints 'clients N',
+'handles N' and 'receipts N': how many clients, starts and waits the script has.
+Four verdicts follow, each 'ok' or 'false':
   verdict credits   the held credits are those of the entries of the running
                     transaction
   verdict receipts  each handle that was waited for is in the record, in a
@@ -815,8 +816,8 @@ description says how many blocks. A longer one is several such writes, in order.
 What was answered before a flush was sent is durable once the flush is answered.
 So is an answered write with FUA. docs/BLOCK-DEVICE.md says how to connect.
 
-Exit status: 0 the client ended between two requests; 1 refused: the words, a
-file, the log, or the device; or the client ended within a request, could not be
+Exit status: 0 the client ended between two messages; 1 refused: the words, a
+file, the log, or the device; or the client ended within a message, could not be
 read or written, or sent no NBD.
 
 Example:

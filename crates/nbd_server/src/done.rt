@@ -20,7 +20,7 @@ pub struct Done {
     pub upto: Tid,
     /// The first answers that confirmed a commit, in order, as many as were to be kept.
     pub committed: Vec<Committed>,
-    /// An error if the client could not be read or written, ended within a request, or sent no NBD.
+    /// An error if the client could not be read or written, ended within a message, or sent no NBD.
     pub end: io::Result<()>,
 }
 
