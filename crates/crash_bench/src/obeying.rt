@@ -10,7 +10,7 @@ use commit_times::{bench, threads as timed};
 use file_device::{Contents, FileDevice};
 use jbench_commands::obeying as one_thread;
 use jbench_commands::progress::Progress;
-use jbench_files::{Text, device_of, open_pair_within, open_text};
+use jbench_files::{Text, device_of, open_pair_within, open_text, say_failure};
 use jbench_words::fault::{Status, refuse_file};
 use jbench_words::words::{BenchWords, ServeWords, Words};
 use std::io;
@@ -145,7 +145,13 @@ fn serve_device<T: Threads + Wait + Sync, C: Contents + Send, E: Write>(
     ensures { IfOk result (λ done. IfSome done (IsClosedLeft C.contents)) }
 {
     let out = BufWriter::with_capacity(rt.alloc(), GATHERED, rt.stdout())?;
-    serving::serve(threads, rt.alloc(), words, device, rt.stdin(), out, err)
+    match serving::serve(threads, rt.alloc(), words, device, rt.stdin(), out, err)? {
+        Ok(device) => Ok(Some(device)),
+        Err(device) => {
+            say_failure(&device, words.paths, err)?;
+            Ok(None)
+        }
+    }
 }
 
 /// The status of a command that answers something only if all was done.

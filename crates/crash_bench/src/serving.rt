@@ -1,5 +1,5 @@
 //! The command `serve`: a log's volume as a block device, over the program's standard streams.
-ghost use Rattle.std.specs.Prelude.{◌≡◌, ℕ, IfOk, IfSome};
+ghost use Rattle.std.specs.Prelude.{◌≡◌, ℕ, IfOk};
 ghost use Rattle.commit_times.specs.Closed.{IsLeftClosed};
 ghost use Rattle.journal_model.specs.Disk.{Shape};
 ghost use Rattle.volume_service.specs.Ending.{IsEndedBy};
@@ -11,7 +11,7 @@ use jbench_words::words::ServeWords;
 use journal_model::JournalError;
 use nbd_server::{Done, Export, Output, Served};
 use recovery::Opened;
-use shared_journal::{UnnamedJournal, Unrecorded, create};
+use shared_journal::{Parts, UnnamedJournal, Unrecorded, create};
 use std::alloc::Global;
 use std::io;
 use std::io::{ErrorKind, Read, Write};
@@ -19,8 +19,8 @@ use std::sync::Wait;
 use std::thread::Threads;
 
 /// Opens a device's log, serves the client on `input` and `out` until it ends, and closes the journal. `err` gets the opening's report,
-/// then the number of requests and the last transaction. The device comes back only if the journal was closed; the client must have ended
-/// between two messages. Otherwise a line on `err` has the reason.
+/// then the number of requests and the last transaction. The device comes back as `Ok` only if the journal was closed; the client must have
+/// ended between two messages. Otherwise a line on `err` has the reason, and the device comes back as `Err`.
 ///
 /// # Errors
 ///
@@ -39,15 +39,15 @@ pub(crate) fn serve<
     input: I,
     out: O,
     err: &mut E,
-) -> io::Result<Option<D>>
-    ensures { IfOk result (λ done. IfSome done (λ device. D.honest device → IsLeftClosed (D.state device))) }
+) -> io::Result<Result<D, D>>
+    ensures { IfOk result (λ done. IfOk done (λ device. D.honest device → IsLeftClosed (D.state device))) }
 {
     let opened = match recovery::open(alloc, device) {
         Ok(opened) => opened,
         Err((device, e)) => {
             let mut device = device;
             refuse(alloc, words.paths.log, &mut device, e, err)?;
-            return Ok(None);
+            return Ok(Err(device));
         }
     };
     match say_opened(opened.report(), opened.next(), err) {
@@ -55,7 +55,7 @@ pub(crate) fn serve<
         Err(Fault::Output(e)) => Err(e),
         Err(fault) => {
             fault::refuse(err, words.paths.log, &fault)?;
-            Ok(None)
+            Ok(Err(opened.into_device()))
         }
     }
 }
@@ -75,14 +75,14 @@ fn serve_opened<
     input: I,
     out: O,
     err: &mut E,
-) -> io::Result<Option<D>>
-    ensures { IfOk result (λ done. IfSome done (λ device. D.honest device → IsLeftClosed (D.state device))) }
+) -> io::Result<Result<D, D>>
+    ensures { IfOk result (λ done. IfOk done (λ device. D.honest device → IsLeftClosed (D.state device))) }
 {
     let unnamed: UnnamedJournal<D> = match create(alloc, opened) {
         Ok(unnamed) => unnamed,
-        Err((_opened, e)) => {
+        Err((opened, e)) => {
             fault::refuse(err, words.paths.log, &Fault::Refused(e))?;
-            return Ok(None);
+            return Ok(Err(opened.into_device()));
         }
     };
     let export = Export {
@@ -93,21 +93,21 @@ fn serve_opened<
     match nbd_server::serve(threads, alloc, unnamed, export, 0, input, &out) {
         Ok(served) => match device_left(served) {
             Ok((done, device)) => say_done(done, device, err),
-            Err(e) => {
+            Err((device, e)) => {
                 fault::refuse(err, words.paths.log, &Fault::Refused(e))?;
-                Ok(None)
+                Ok(Err(device))
             }
         },
-        Err((_parts, e)) => {
+        Err((parts, e)) => {
             fault::refuse(err, words.paths.log, &Fault::Refused(e))?;
-            Ok(None)
+            Ok(Err(parts.device))
         }
     }
 }
 
-/// Prints how a connection ended, and gives `left` back unless it ended with an error.
-fn say_done<D: Drop, E: Write>(done: Done, left: D, err: &mut E) -> io::Result<Option<D>>
-    ensures { IfOk result (λ back. IfSome back (λ one. one ≡ left)) }
+/// Prints how a connection ended, and gives `left` back, as `Err` if it ended with an error.
+fn say_done<D: Drop, E: Write>(done: Done, left: D, err: &mut E) -> io::Result<Result<D, D>>
+    ensures { IfOk result (λ back. IfOk back (λ one. one ≡ left)) }
 {
     writeln!(
         err,
@@ -115,7 +115,7 @@ fn say_done<D: Drop, E: Write>(done: Done, left: D, err: &mut E) -> io::Result<O
         done.requests, done.upto.0
     )?;
     match done.end {
-        Ok(()) => Ok(Some(left)),
+        Ok(()) => Ok(Ok(left)),
         Err(e) => {
             match e.kind() {
                 ErrorKind::UnexpectedEof => {
@@ -126,18 +126,30 @@ fn say_done<D: Drop, E: Write>(done: Done, left: D, err: &mut E) -> io::Result<O
                 }
                 _ => writeln!(err, "jbench: client: {e}")?,
             }
-            Ok(None)
+            Ok(Err(left))
         }
     }
 }
 
-/// How a connection ended, and its device if the journal was closed.
-fn device_left<D: Device + Drop>(served: Served<D, Unrecorded>) -> Result<(Done, D), JournalError>
+/// How a connection ended, and its device, as `Err` with the cause if the journal was not closed.
+fn device_left<D: Device + Drop>(
+    served: Served<D, Unrecorded>,
+) -> Result<(Done, D), (D, JournalError)>
     requires ended { (most : ℕ) × (measures : Shape) × IsEndedBy D.state D.honest most measures served.parts.device served.parts.sealed.transactions.items served.parts.committed served.closed }
     ensures { IfOk result (λ left. D.honest left.1 → IsLeftClosed (D.state left.1)) }
 {
-    match served.closed {
-        Ok(()) => Ok((served.done, served.parts.device)),
-        Err(e) => Err(e),
+    let Served {
+        done,
+        closed,
+        parts,
+    } = served;
+    let Parts {
+        device,
+        sealed: _,
+        committed: _,
+    } = parts;
+    match closed {
+        Ok(()) => Ok((done, device)),
+        Err(e) => Err((device, e)),
     }
 }
