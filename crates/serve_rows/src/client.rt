@@ -12,6 +12,7 @@ const LOOKS: u64 = 2_000_000;
 pub struct Client<'a> {
     given: &'a Given<'a>,
     at: usize,
+    /// How many bytes of answers were sent.
     sent: &'a AtomicUsize,
 }
 
