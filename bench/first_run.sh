@@ -1,6 +1,7 @@
 #!/bin/sh
-# Measures what someone new waits for, in a clean clone of this repository: the answer of the first command, the proved build, and with
-# `--test` the whole test. Prints a line for each: the minutes of wall time, and the most memory that one process took.
+# Measures what someone new waits for, in a clean clone of this repository: the answers of the first command and of the second, the
+# proved build, and with `--test` the whole test. Prints a line for each: the minutes of wall time, and the most memory that one process
+# took.
 #
 #     bench/first_run.sh FOLDER [--test]      FOLDER is made, and has the clone
 #
@@ -32,6 +33,7 @@ measured() {
 
 echo "processors: $(nproc), memory: $(awk '/^MemTotal:/ { printf "%.0f GB", $2 / 1048576 }' /proc/meminfo), load before: $(cut -d ' ' -f 1 /proc/loadavg)"
 measured "first answer" ./jbench run examples/one_write.json
+measured "second answer" ./jbench run examples/one_write.json
 measured "proved build" ./jbench build
 measured "answer of the proved program" ./jbench run examples/one_write.json
 [ "$#" = 1 ] || measured "whole test" ./test
