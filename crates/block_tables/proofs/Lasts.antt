@@ -7,8 +7,7 @@ use Rattle.std.proofs.lemmas.Option.{none-some, same_Some}
 use Rattle.journal_model.specs.declared.entry.Batch.{Batch}
 use Rattle.journal_model.specs.declared.entry.Entry.{Entry}
 use Rattle.journal_model.proofs.ListElements.{contains-behind, contains-cases, contains-first, contains-none}
-use Rattle.block_tables.specs.declared.effects.LastEffect.{LastEffect}
-use Rattle.block_tables.specs.Effects.{HasLast, HasNoEntry, effect_of, last_among, last_effect}
+use Rattle.block_tables.specs.Effects.{HasLast, HasNoEntry, LastEffect, effect_of, last_among, last_effect}
 
 -- an entry is of its block
 entry-block : (es : List (ℕ × Entry)) (b : ℕ) (entry : Entry) → Contains es (b, entry) → Contains (map (λ e. e.0) es) b

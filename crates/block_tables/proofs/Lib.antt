@@ -1,5 +1,7 @@
+mod Bits
 -- The lemmas of this crate that crates above it cite.
 pub mod Lasts
+pub mod Noted
 pub mod Noting
 -- The others.
 mod Covering

@@ -1,3 +1,4 @@
+pub mod BlockSet
 pub mod Copies
 pub mod Effects
 pub mod Revokes

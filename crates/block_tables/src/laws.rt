@@ -5,9 +5,8 @@ ghost use Rattle.journal_model.specs.declared.entry.Batch.{Batch};
 ghost use Rattle.log_model.specs.Replay.{HasNoLive, IsCovered, IsNewest};
 ghost use Rattle.log_model.specs.declared.log.Text.{Text};
 ghost use Rattle.block_tables.specs.Copies.{GoesHome};
-ghost use Rattle.block_tables.specs.Effects.{HasLast, HasNoEntry, last_effect};
+ghost use Rattle.block_tables.specs.Effects.{HasLast, HasNoEntry, LastEffect, last_effect};
 ghost use Rattle.block_tables.specs.Revokes.{BlockTable, Covers, noted, noted_all, revokes_of};
-ghost use Rattle.block_tables.specs.declared.effects.LastEffect.{LastEffect};
 
 /// One more revoke covers its block up to its transaction, and nothing else.
 pub fn a_revoke_covers_up_to_its_transaction()

@@ -1,21 +1,23 @@
 -- Whether a block is left to home, by the last effect on it of the batches handed over.
 use Rattle.std.proofs.Common.{arith, inl, inr, refl, sym, ap, subst, ◌∙◌}
-use Rattle.std.specs.Prelude.{◌≡◌, ◌↔◌, ℕ, ◌+◌, ◌<◌, ◌≤◌, nat_eq, List, map, Option, Some, None, slice_get, Contains}
+use Rattle.std.specs.Prelude.{◌≡◌, ◌↔◌, ℕ, suc, ◌+◌, ◌<◌, ◌≤◌, nat_eq, List, length, map, Option, Some, None, slice_get, Contains}
 use Rattle.std.specs.Cmp.{nat_eq_equiv}
 use Rattle.std.specs.List.{IsDistinct}
-use Rattle.std.proofs.lemmas.Bool.{cases_lt}
+use Rattle.std.proofs.lemmas.Bool.{cases_eq, cases_lt}
 use Rattle.std.proofs.lemmas.Map.Views.{lookup-from_Contains}
-use Rattle.std.proofs.lemmas.Option.{same_Some}
+use Rattle.std.proofs.lemmas.Option.{same_Some, slice_get_within}
 use Rattle.journal_model.specs.declared.entry.Batch.{Batch}
 use Rattle.journal_model.specs.declared.entry.Entry.{Entry}
 use Rattle.journal_model.specs.declared.entry.Entry.TheVariants.{Copy, Revoke}
-use Rattle.block_tables.specs.declared.effects.LastEffect.{LastEffect}
-use Rattle.block_tables.specs.declared.effects.LastEffect.TheVariants.{Copied, Revoked}
-use Rattle.block_tables.specs.Effects.{EffectsValue, HasLast, HasNoEntry, IsLeft, effect_of, effect_on, last_effect}
+use Rattle.block_tables.specs.Effects.LastEffect.{Copied, Revoked}
+use Rattle.block_tables.specs.Effects.{EffectsValue, HasLast, LastEffect, HasNoEntry, IsLeft, effect_of, effect_on, last_effect, noted_effect}
 use Rattle.block_tables.proofs.Lasts.{none-entered, some-last}
+use Rattle.block_tables.proofs.Noted.{Forgets, LastLacks, noted-fits}
+use Rattle.journal_world.specs.declared.stage.Stage.{Stage}
+use Rattle.journal_world.specs.declared.stage.Stage.TheVariants.{Idle, SuperblockWrite, SuperblockFlush, Blocks, CommitWrite, CommitFlush}
 use Rattle.journal_world.specs.Direct.{IsLeftToHome}
 use Rattle.journal_world.specs.Engine.{Engine, IsBatch}
-use Rattle.journal_world.specs.Sound.{IsPlain}
+use Rattle.journal_world.specs.Sound.{IsPlain, StageAgrees}
 use Rattle.journal_world.proofs.Batches.{number-at}
 use Rattle.journal_world.proofs.Elements.{all-at}
 use Rattle.journal_world.proofs.Lasts.{entry-block}
@@ -109,8 +111,36 @@ module _ (e : Engine) (b : ℕ) where
             elim (cases_lt l.index e.committed) [ inl below ↦ omega arith | inr due ↦ absurd (due-kept (Revoked t) l (omega arith) left) ],
       )
 
+-- at most the last batch handed over is not committed
+last-open : (e : Engine) (stage : Stage) → StageAgrees e stage → length e.accepted ≤ e.committed + 1
+last-open e Idle agrees = let all = agrees.0 in omega arith
+last-open e SuperblockWrite agrees = let all = agrees.0 in omega arith
+last-open e SuperblockFlush agrees = let all = agrees.0 in omega arith
+last-open e (Blocks k) agrees = let all = agrees.0 in omega arith
+last-open e CommitWrite agrees = let all = agrees.0 in omega arith
+last-open e CommitFlush agrees = let all = agrees.0 in omega arith
+
+-- a revoke that is not noted is committed, so its block is left to home
+forgotten-left : (e : Engine) (b : ℕ) → IsPlain e → Forgets (noted_effect e.accepted b None) (last_effect e.accepted b None) → LastLacks e.accepted b → IsLeftToHome e b
+forgotten-left e b plain f lacks =
+    let l = some-last e.accepted b (Revoked f.tid) f.revoked in
+    let revoke = entry-revoked l.transaction.tid f.tid l.entry l.is in
+    let tid : f.tid ≡ l.transaction.tid = revoke.1 in
+    let number : l.transaction.tid ≡ e.first + l.index = number-at e.first l.index e.accepted l.transaction plain.numbered l.stands in
+    let within = slice_get_within e.accepted l.index l.transaction l.stands in
+    let recent = last-open e e.stage plain.stage in
+    let earlier : suc l.index ≡ length e.accepted → ⊥ = λ last. lacks l.index l.transaction l.stands last (entry-block l.transaction.entries b l.entry l.has) in
+    (left-told e b plain (Some (Revoked f.tid)) f.revoked).0
+    (elim (cases_eq (suc l.index) (length e.accepted)) [ inl last ↦ absurd (earlier last) | inr before ↦ omega arith ])
+
 -- the table decides whether a block is left to home
 pub table-told : (e : Engine) (table : EffectsValue) (b next : ℕ) → IsPlain e → HasEffects e table → next ≡ e.first + e.committed →
     IsLeft (effect_on table b) next ↔ IsLeftToHome e b
 table-told e table b next plain has is =
-    subst (λ (n : ℕ). IsLeft (effect_on table b) n ↔ IsLeftToHome e b) (sym is) (left-told e b plain (effect_on table b) (sym (has b)))
+    elim (noted-fits e.accepted b None None (inl refl)) [
+      | inl same ↦
+          subst (λ (n : ℕ). IsLeft (effect_on table b) n ↔ IsLeftToHome e b) (sym is)
+          (left-told e b plain (effect_on table b) (sym (has b ∙ same)))
+      | inr (f, lacks) ↦
+          (λ yes. forgotten-left e b plain f lacks, λ left. subst (λ (o : Option LastEffect). IsLeft o next) (sym (has b ∙ f.none)) tt)
+    ]

@@ -4,7 +4,7 @@ use Rattle.std.specs.Prelude.{◌≡◌, ℕ, List, drop}
 use Rattle.journal_model.specs.declared.entry.Batch.{Batch}
 use Rattle.journal_model.specs.declared.entry.Entry.{Entry}
 use Rattle.journal_model.specs.Disk.{Disk, Shape}
-use Rattle.block_tables.specs.Effects.{EffectsValue}
+use Rattle.block_tables.specs.Effects.{EffectsValue, effect_on}
 use Rattle.journal_world.specs.Engine.{Engine}
 use Rattle.journal_world.specs.Sound.{Sound}
 use Rattle.log_ledger.specs.declared.ledger.Ledger.{Ledger}
@@ -28,7 +28,7 @@ roomy-plan entries plan new copies revokes is = record {
 -- so do ledger, plan and table with more room
 pub roomy-engine : (W honest : Type 0) (shape : Shape) (disk : Disk) (l new : Ledger) (plan roomy : LogPlan) (table wide : EffectsValue) →
     ((s : Shape) → engine_of s new ≡ engine_of s l) → new.ring ≡ l.ring → new.pending ≡ l.pending → new.kept.items ≡ l.kept.items →
-    roomy.copies.items ≡ plan.copies.items → roomy.revokes.items ≡ plan.revokes.items → wide.effects ≡ table.effects →
+    roomy.copies.items ≡ plan.copies.items → roomy.revokes.items ≡ plan.revokes.items → ((b : ℕ) → effect_on wide b ≡ effect_on table b) →
     Runs shape l × W × (honest → Sound (engine_of shape l) disk) × (honest → KeepsClean (engine_of shape l) disk)
     × HasPlan (engine_of shape l) plan × HasEffects (engine_of shape l) table →
     Runs shape new × W × (honest → Sound (engine_of shape new) disk) × (honest → KeepsClean (engine_of shape new) disk)

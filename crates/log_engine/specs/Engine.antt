@@ -5,7 +5,7 @@ use Rattle.journal_model.specs.declared.refusal.JournalError.TheVariants.{Aborte
 use Rattle.journal_model.specs.Block.{IsAllowedBlock}
 use Rattle.journal_model.specs.Disk.{Disk}
 use Rattle.block_device.specs.State.{DeviceState, Stays, one_more_fault}
-use Rattle.block_tables.specs.Effects.{EffectsValue, effect_on, last_effect}
+use Rattle.block_tables.specs.Effects.{EffectsValue, effect_on, noted_effect}
 use Rattle.journal_world.specs.declared.round.Round.TheVariants.{Idle as NoRound}
 use Rattle.journal_world.specs.declared.stage.Stage.TheVariants.{Idle}
 use Rattle.journal_world.specs.Checkpoint.{IsPending, RoundFaults, RoundSteps}
@@ -19,9 +19,9 @@ pub record EngineValue (D : Type 0) : Type 0 where
   pub device : D
   pub engine : Engine
 
--- the table has the last effect on each block of the batches handed over
+-- the table has the last effect on each block of the batches handed over, but for committed revokes
 abbrev pub HasEffects : Engine → EffectsValue → Type 0
-HasEffects e table = (b : ℕ) → effect_on table b ≡ last_effect e.accepted b None
+HasEffects e table = (b : ℕ) → effect_on table b ≡ noted_effect e.accepted b None
 
 -- why a batch is refused for which the ring has room
 pub data AcceptRefused (e : Engine) : JournalError → Type 0 where

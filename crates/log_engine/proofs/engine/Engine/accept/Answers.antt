@@ -5,7 +5,7 @@ use Rattle.journal_model.specs.declared.entry.Entry.{Entry}
 use Rattle.journal_world.proofs.Accepted.{accepts-sound}
 use Rattle.journal_world.specs.Engine.{Engine, HasRoom}
 use Rattle.journal_world.specs.Sound.{Sound}
-use Rattle.block_tables.specs.Effects.{effect_on, last_among}
+use Rattle.block_tables.specs.Effects.{effect_on, last_among, once_committed}
 use Rattle.log_ledger.specs.Steps.{MayHandOver}
 use Rattle.log_ledger.specs.Ledger.{engine_of}
 use Rattle.log_ledger.specs.Text.{IsPlanOf}
@@ -157,7 +157,7 @@ invariant_of-self-2 g c =
       λ honest. taken-clean e _ c.args.batch state.disk (takes e _ c.args.batch c.if-self.false may room is),
       taken-planned e _ c.args.batch c.make.new.self c.self.invariant.0.plain may is plan,
       taken-noted e _ c.args.batch c.reserve.new.self c.note.new.self is
-          (subst (λ (x : Batch). (b : ℕ) → effect_on c.note.new.self b ≡ last_among x.tid x.entries b (effect_on c.reserve.new.self b)) (sym there) c.note.ensures)
+          (subst (λ (x : Batch). (b : ℕ) → effect_on c.note.new.self b ≡ last_among x.tid x.entries b (once_committed (effect_on c.reserve.new.self b))) (sym there) c.note.ensures)
           (roomy-noted e c.self.inside.effects c.reserve.new.self c.reserve.ensures.same c.self.invariant.5),
     )
 
