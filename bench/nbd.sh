@@ -50,7 +50,7 @@ echo "versions: $(dpkg-query -W -f '${Package} ${Version} ' fio nbdkit qemu-util
 echo "runs=$runs seconds=$seconds length=$length home=$home"
 
 stores=jbench
-/usr/bin/python3 -B "$here/served.py" "$folder/jbench" "$program" serve "$folder/log" "$folder/home" 2>/dev/null &
+/usr/bin/python3 -B "$here/../trials/served.py" "$folder/jbench" "$program" serve "$folder/log" "$folder/home" 2>/dev/null &
 if command -v nbdkit >/dev/null; then
     stores="$stores nbdkit"
     nbdkit -f -U "$folder/nbdkit" file "$folder/plain" &

@@ -89,10 +89,11 @@ def main():
     program = TOP / "jbench"
     if words[:1] == ["--program"]:
         program, words = words[1], words[2:]
+    else:
+        subprocess.run([program, "build"], check=True)
     if len(words) > 1 or not all(word.isdigit() for word in words):
         sys.exit(__doc__)
     rounds = int(words[0]) if words else 5
-    subprocess.run([program, "--help"], stdout=subprocess.DEVNULL, check=True)
     print(f"processors: {os.cpu_count()}, load before: {os.getloadavg()[0]:.1f}")
     for revokes in (1_000, 10_000, 40_000):
         made = one_transaction(revokes)

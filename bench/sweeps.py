@@ -60,7 +60,7 @@ def main():
     if words[:1] == ["--program"]:
         program, words = Path(words[1]).absolute(), words[2:]
     else:
-        subprocess.run([TOP / "jbench", "--help"], stdout=subprocess.DEVNULL, check=True)
+        subprocess.run([TOP / "jbench", "build"], check=True)
     options = [word for word in words if word == "--fail"]
     with tempfile.TemporaryDirectory() as folder:
         path = Path(folder) / "script.json"

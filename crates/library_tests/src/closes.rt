@@ -1,5 +1,5 @@
 //! A close that finishes a commit asks for all its memory before its first device call. The gate refuses no request:
-//! `bench/refused_memory.py` runs this test once for each request, and refuses it.
+//! `tests/refused-memory/refused_memory.py` runs this test once for each request, and refuses it.
 use crate::newest::{change, journal_on};
 use block_device::MemDevice;
 use group_commit::{Journal, Parts};

@@ -3,7 +3,7 @@
 //! A log has 17 to 33 blocks, and up to 15 home blocks. Its area has old copies, commit blocks and zeros. It has up to seven transactions
 //! of up to three pieces each, as far as the ring has room. Then bytes of some blocks are changed, some rings get a block with a number
 //! near the log's, and some superblocks a wrong field. A wide log has block numbers of 64 bits, and is drawn in the same way.
-//! `bench/openings.py` draws the same logs from the same seed.
+//! `models/openings.py` draws the same logs from the same seed.
 ghost use Rattle.std.specs.Prelude.{◌<◌};
 
 use rand_core::{Rng, SeedableRng};

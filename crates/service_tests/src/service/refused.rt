@@ -1,5 +1,5 @@
-//! Clients whose run may be refused any one request for memory. The gate refuses none: `bench/refused_memory.py` runs this test once for
-//! each request, and refuses it.
+//! Clients whose run may be refused any one request for memory. The gate refuses none: `tests/refused-memory/refused_memory.py` runs
+//! this test once for each request, and refuses it.
 use super::{LOG_BLOCKS, Summary, try_run, two_clients};
 use block_device::{Device, MemDevice};
 use journal_model::{Area, JournalError, Sealed, Tid};

@@ -45,11 +45,13 @@ import tempfile
 from collections import Counter
 from pathlib import Path
 
+TOP = Path(__file__).resolve().parent.parent
+sys.path.append(str(TOP / "models"))
+
 from openings import word
 from run_model import DEFAULTS, NUMBERS, TAGS, Run, capacity, dump_lines, outcome_of
 from run_rows import tell_failure_sweep, tell_sweep
 
-TOP = Path(__file__).resolve().parent.parent
 MOST_IMAGE_BLOCKS = 1048576  # of the home area of an image in files
 
 
@@ -516,6 +518,9 @@ class Alone(Comparison):
     def expect(self, *_):
         pass
 
+    def compare_bad(self, *_):
+        pass
+
     def compare_image(self, *_):
         pass
 
@@ -653,7 +658,7 @@ def program_of(words):
     if words[:1] == ["--program"]:
         return Path(words[1]).resolve(), words[2:]
     program = TOP / "jbench"
-    subprocess.run([str(program), "--version"], check=True, stdout=subprocess.DEVNULL)
+    subprocess.run([program, "build"], check=True)
     return program, words
 
 
@@ -702,7 +707,7 @@ def main():
     count, seed = count_and_seed(words, usual)
     if program is None and kind is Comparison:
         program = TOP / "jbench"
-        subprocess.run([program, "--help"], capture_output=True)
+        subprocess.run([program, "build"], check=True)
     with tempfile.TemporaryDirectory() as folder:
         comparison = kind(program, Path(folder), wide)
         try:

@@ -17,9 +17,10 @@ import time
 from collections import Counter
 from pathlib import Path
 
-from openings import opening
-
 TOP = Path(__file__).resolve().parent.parent
+sys.path.append(str(TOP / "models"))
+
+from openings import opening
 
 
 def blocks_of(path, size):
@@ -66,8 +67,9 @@ def main():
     program = TOP / "jbench"
     if words[:1] == ["--program"]:
         program, words = Path(words[1]).resolve(), words[2:]
+    else:
+        subprocess.run([program, "build"], check=True)
     count, seed = (int(word) for word in (words + ["100", "1"][len(words):])[:2])
-    subprocess.run([program, "--help"], check=True, capture_output=True)
     kinds, transactions = Counter(), 0
     with tempfile.TemporaryDirectory(dir="/dev/shm") as folder:
         for number in range(seed, seed + count):

@@ -259,7 +259,7 @@ def stops():
 if __name__ == "__main__":
     folder = sys.argv[1]
     with open(folder + "/streams.rows", "w") as f:
-        f.write("# What a client sends, what a server answers, and what it leaves: by the model in bench/serve_rows.py. Blocks have 1024 bytes,\n"
+        f.write("# What a client sends, what a server answers, and what it leaves: by the model in models/serve_rows.py. Blocks have 1024 bytes,\n"
                 "# and a handle 6 credits at most. Where an answer waits for a commit, or has 65536 bytes, no request follows\n# whose answer might overtake it.\nrows streams\n")
         for name, c in streams():
             wanted = c.wanted()

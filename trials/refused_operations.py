@@ -14,6 +14,9 @@ import json
 import subprocess
 import sys
 from collections import Counter
+from pathlib import Path
+
+sys.path.append(str(Path(__file__).resolve().parent.parent / "models"))
 
 from killed_apply import Apply, Left
 from refusals import refusal_lines

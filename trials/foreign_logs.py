@@ -30,9 +30,11 @@ import sys
 import tempfile
 from pathlib import Path
 
+TOP = Path(__file__).resolve().parent.parent
+sys.path.append(str(TOP / "models"))
+
 from openings import scan, word
 
-TOP = Path(__file__).resolve().parent.parent
 HOME = 4096
 FIRST, LAST = 3000, 3039
 
@@ -229,7 +231,7 @@ def main():
     if words[:1] == ["--kernel"]:
         words, writer = words[1:], by_kernel
     count, seed = [int(text) for text in words] + [20, 1][len(words) :]
-    run(TOP / "jbench", "--help")
+    run(TOP / "jbench", "build")
     with tempfile.TemporaryDirectory() as name:
         for each in range(seed, seed + count):
             print(compare(each, Path(name), writer, TOP / "jbench"), flush=True)

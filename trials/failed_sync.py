@@ -139,7 +139,7 @@ def attempt(program, folder, log_works_again):
 def main(words):
     program = Path(words[1]).resolve() if words[:1] == ["--program"] else TOP / "jbench"
     if words[:1] != ["--program"]:
-        subprocess.run([program, "--version"], check=True, stdout=subprocess.DEVNULL)
+        subprocess.run([program, "build"], check=True)
     right = True
     for log_works_again in (True, False):
         with tempfile.TemporaryDirectory() as folder:

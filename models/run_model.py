@@ -5,7 +5,7 @@ usage: run_model.py SCRIPT [--stop K | --fail K] [--keep LIST] [--stop2 K] [--ke
 
 It prints what a run of this file should print. It takes no bad scripts: what it is given is not tested. The rules are those of
 docs/JBENCH.md (scripts, runs, dumps) and docs/FORMAT.md (bytes, device calls and their order); what an opening finds is said by
-openings.py. `runs.py` has random scripts, and compares them with the program.
+openings.py. `trials/runs.py` has random scripts, and compares them with the program.
 """
 import json
 import sys

@@ -5,9 +5,12 @@ model of `serve_rows.py`. It wants no client of NBD. Answers may come in another
     serve_streams.py [--program PATH] COUNT SEED
 """
 import argparse, pathlib, random, socket, struct, subprocess, sys, tempfile, time
-import serve_rows as model
 
 TOP = pathlib.Path(__file__).resolve().parent.parent
+sys.path.append(str(TOP / "models"))
+
+import serve_rows as model
+
 BLOCKS = 1024
 MOST_SENT, MOST_READ = 3 << 20, 1 << 20
 LENGTHS = [1, 7, 512, 1024, 4096, 5000, 65536, 300000]

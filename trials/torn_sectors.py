@@ -20,6 +20,9 @@ import json
 import subprocess
 import sys
 from collections import Counter
+from pathlib import Path
+
+sys.path.append(str(Path(__file__).resolve().parent.parent / "models"))
 
 from killed_apply import Apply, Left
 from openings import DESCRIPTOR, REVOKE, has_magic, word

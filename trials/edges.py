@@ -55,7 +55,7 @@ def first_line(found):
 def main(words):
     program = Path(words[1]).resolve() if words[:1] == ["--program"] else TOP / "jbench"
     if words[:1] != ["--program"]:
-        subprocess.run([program, "--version"], check=True, stdout=subprocess.DEVNULL)
+        subprocess.run([program, "build"], check=True)
     calls = wrong = 0
     with tempfile.TemporaryDirectory() as name:
         folder = Path(name)

@@ -21,8 +21,7 @@ import sys
 import tempfile
 from pathlib import Path
 
-from refused_memory import Refuser
-from runs import program_of
+from refused_memory import Refuser, program_of
 
 LENGTH = 257  # blocks of the log
 FIRST = ["turn"]  # the first operation, which does nothing: what comes before its line is the journal's making

@@ -42,12 +42,15 @@ import tempfile
 from collections import Counter
 from pathlib import Path
 
+HERE = Path(__file__).resolve().parent
+TOP = HERE.parent.parent
+sys.path += [str(TOP / "models"), str(TOP / "trials")]
+
 from killed_apply import Apply, Killer
 from run_model import Outcome, Refused, Run, need
 from refusals import refusal_lines
 from runs import Difference, RandomScript, count_and_seed, first_difference, program_of
 
-HERE = Path(__file__).resolve().parent
 NEVER = 1_000_000  # a device call that no script comes to: after a failed call the script goes on
 MEMORY, DEVICE = refusal_lines("1 Memory"), refusal_lines("2 Device")
 CLIENTS = "service::refused::a_client_without_memory_ends_alone"  # the test of clients in threads
@@ -483,7 +486,7 @@ def judge_commands(refuser):
     judge_files(refuser, "upgrade", ["upgrade", log], clean, [clean])
     script = refuser.path("checked", json.dumps({"ops": ROWS["further_handles"]}))
     judge_files(refuser, "check", ["check", script], {})
-    judge_files(refuser, "check of clients", ["check", HERE.parent / "examples" / "two_clients.json"], {})
+    judge_files(refuser, "check of clients", ["check", TOP / "examples" / "two_clients.json"], {})
     judge_files(refuser, "completions", ["completions", "bash"], {})
     judge_files(refuser, "man", ["man"], {})
     for name, operations in ROWS.items():
@@ -512,7 +515,7 @@ def main(words):
             print(f"never refused: {missing}")
         judge_commands(refuser)
         judge_seals(refuser)
-        judge_threads(refuser, HERE.parent / "examples" / "two_clients.json")
+        judge_threads(refuser, TOP / "examples" / "two_clients.json")
         for path, judge in tests.items():
             judge(refuser, path)
         draw = random.Random(seed)

@@ -31,6 +31,8 @@ import time
 from collections import Counter
 from pathlib import Path
 
+sys.path.append(str(Path(__file__).resolve().parent.parent / "models"))
+
 from openings import opening, word
 from run_model import Device, Journal, Outcome, Refused, Run, formatted, number_behind
 from runs import (Difference, FileSystems, RandomScript, count_and_seed, first_difference, program_of, recover_by_e2fsck,

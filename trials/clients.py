@@ -22,9 +22,11 @@ import tempfile
 from collections import Counter
 from pathlib import Path
 
+TOP = Path(__file__).resolve().parent.parent
+sys.path.append(str(TOP / "models"))
+
 from run_model import capacity
 
-TOP = Path(__file__).resolve().parent.parent
 FORM = '["start", n], ["write", b, hex], ["revoke", b], ["stop"] or ["wait"] is wanted'
 
 
@@ -148,6 +150,8 @@ def main():
         at = words.index("--program")
         program = Path(words[at + 1]).resolve()
         del words[at:at + 2]
+    else:
+        subprocess.run([program, "build"], check=True)
     count, seed = (int(word) for word in (words + ["1000", "1"][len(words):])[:2])
     kinds = Counter()
     with tempfile.TemporaryDirectory() as folder:

@@ -3,7 +3,7 @@
 `serve`, and keeps a log of its own kind: records of a length, a place, a checksum and the bytes, each written by one call, and brought home by
 an opening and whenever the log is full.
 
-    WRONG=KIND soak.py --program bench/wrong_server.py ..
+    WRONG=KIND soak.py --program trials/wrong_server.py ..
 
 KIND says what is wrong from the third second of an opening on:
 
