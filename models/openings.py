@@ -536,7 +536,7 @@ def written_out(text):
         return "".join(found[2].replace("#", str(n)).replace("@", str(n + more)).replace("$", f"{n + more:02x}")
                        for n in range(first, last + 1))
 
-    return re.sub(r"<([^|>]*)\|([^>]*)>", repeated, text)
+    return re.sub(r"<(\d+ \d+ \d+)\|([^>]*)>", repeated, text)
 
 
 def rows_of(text):
