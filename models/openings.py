@@ -4,7 +4,7 @@
 usage: openings.py FILE.rows ..
        openings.py --rows KIND SEED COUNT [wide]     a file of rows of this kind, one for each of so many random logs
 
-Each file has rows of the kind openings, second_openings, opening_calls, recover, upgrade, upgrades, changed_bytes or random_logs
+Each file has rows of the kind openings, second_openings, opening_calls, upgrades, changed_bytes or random_logs
 (folder data of the crate journal_rows). For each file a line tells how many of its rows want what the model says, and each other row is printed
 with both texts. The last row of a file is wrong on purpose, so it has to be among those that are printed. Wanted texts of rows
 with many images come from here. With --rows, KIND is openings, second_openings, opening_calls or upgrades; all rows of such a file are to
@@ -14,8 +14,6 @@ The rules are those of docs/FORMAT.md: bytes, the tests of an opening and their 
 """
 import re
 import sys
-
-from refusals import refusal_lines
 
 MAGIC = 0xC03B3998
 DESCRIPTOR, COMMIT, SUPERBLOCK, REVOKE = 1, 2, 4, 5
@@ -204,26 +202,6 @@ def tell_opening_calls(log, home_blocks):
         return ""
     writes = [f"write home {number}" for number in home]
     return "\n".join(["flush log"] + ([] if line.startswith("clean") else writes + ["flush home", "write log 0", "flush log"]))
-
-
-def told_refused(line):
-    """What a command says that is refused, as rows have it."""
-    return "".join(f"stderr: {told}\n" for told in refusal_lines(line.removeprefix("refusal ")).splitlines()) + "exit 1"
-
-
-def tell_recover(log, home_blocks):
-    """What `recover` prints, and the first line of what it says."""
-    line = opening(log, home_blocks)[0]
-    if line.startswith("refusal"):
-        return told_refused(line)
-    if line.startswith("recovered"):  # the number was written into the log, and the next opening finds none above it
-        line = line.replace(f" next={GREATEST} ", " next=none ")
-    return f"{line}\nexit 0"
-
-
-def tell_upgrade(log, _):
-    line = upgrade(log)[0]
-    return told_refused(line) if line.startswith("refusal") else f"{line}\nexit 0"
 
 
 def tell_upgrades(log, home_blocks):
@@ -556,8 +534,6 @@ TELL = {
     "openings": lambda given: tell_opening(*log_of(given)),
     "second_openings": lambda given: tell_second_opening(*log_of(given)),
     "opening_calls": lambda given: tell_opening_calls(*log_of(given)),
-    "recover": lambda given: tell_recover(*log_of(given.partition("\n")[2])),
-    "upgrade": lambda given: tell_upgrade(*log_of(given.partition("\n")[2])),
     "upgrades": lambda given: tell_upgrades(*log_of(given)),
     "changed_bytes": tell_changed_bytes,
     "random_logs": tell_random_logs,

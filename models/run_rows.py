@@ -4,7 +4,7 @@
 usage: run_rows.py FILE.rows ..             how many rows of each file want what the model says; each other row with both texts
        run_rows.py --wanted NAME FILE.rows  what the model says of the row of this name
 
-Each file has rows of the kind run, stops, stops_of_openings, failures, sweeps, failure_sweeps or bytes (folder data of the crate journal_rows). The last row
+Each file has rows of the kind stops, stops_of_openings, failures, sweeps, failure_sweeps or bytes (folder data of the crate journal_rows). The last row
 of a file is wrong on purpose, so it has to be among those that are printed. Wanted texts of long rows come from here.
 """
 import sys
@@ -12,13 +12,6 @@ from itertools import takewhile
 
 from openings import rows_of, tell_rows
 from run_model import Outcome, Run, options_of, outcome_of
-
-
-def tell_run(given):
-    """Given: the words of the program on a line, and a script."""
-    line, _, text = given.partition("\n")
-    lines = outcome_of(text, options_of(line.split()[3:])).lines
-    return "\n".join([*lines, f"exit {0 if lines[-1] == 'verdict ok' else 2}"])
 
 
 class Endings:
@@ -148,7 +141,6 @@ def named_bytes(device, line):
 
 
 TELL = {
-    "run": tell_run,
     "stops": tell_stops,
     "stops_of_openings": tell_stops_of_openings,
     "failures": tell_failures,

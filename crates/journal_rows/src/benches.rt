@@ -1,5 +1,5 @@
 //! Rows of the command `bench`, over a device in memory and a clock that advances by itself.
-use crate::commands::{text_of, words_in};
+use crate::words::{text_of, words_in};
 use block_device::MemDevice;
 use commit_times::bench;
 use jbench_words::fault::Status;

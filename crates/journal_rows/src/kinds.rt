@@ -1,5 +1,5 @@
 //! Finds a row's function by the name of its kind.
-use crate::{benches, commands, views};
+use crate::{benches, runs, words};
 use log_rows::RowError;
 use run_rows::journals::{Alone, Runner, Shared};
 use run_rows::shared::SharedJournal;
@@ -18,7 +18,7 @@ pub fn found<R: Wait>(rt: &R, alloc: Global, kind: &str, given: &str) -> Option<
     if let Some(found) = found_of_run(alloc, kind, given) {
         return Some(found);
     }
-    if let Some(found) = found_of_command(rt, alloc, kind, given) {
+    if let Some(found) = found_of_command(alloc, kind, given) {
         return Some(found);
     }
     if let Some(found) = found_of_log(alloc, kind, given) {
@@ -49,7 +49,7 @@ fn found_over_both<R: Wait>(rt: &R, alloc: Global, kind: &str, given: &str) -> O
 }
 
 /// The result over both journals, once if both are the same.
-pub(crate) fn both(alloc: Global, alone: Found, shared: Found) -> Found {
+fn both(alloc: Global, alone: Found, shared: Found) -> Found {
     let (alone, shared) = (alone?, shared?);
     if alone.as_str() == shared.as_str() {
         return Ok(alone);
@@ -66,6 +66,7 @@ fn found_over<J: Runner>(alloc: Global, journal: &J, kind: &str, given: &str) ->
         "failures" => Some(run_rows::failures::failures(alloc, journal, given)),
         "images" => Some(run_rows::images::images(alloc, journal, given)),
         "reopened_devices" => Some(run_rows::reopened::reopened_devices(alloc, journal, given)),
+        "run" => Some(runs::run(alloc, journal, given)),
         "stops" => Some(run_rows::stops::stops(alloc, journal, given)),
         "stops_of_openings" => Some(run_rows::stops::stops_of_openings(alloc, journal, given)),
         _ => None,
@@ -95,23 +96,11 @@ fn found_of_run(alloc: Global, kind: &str, given: &str) -> Option<Found> {
     }
 }
 
-/// The result of a row on the commands of `jbench` and its words.
-fn found_of_command<R: Wait>(rt: &R, alloc: Global, kind: &str, given: &str) -> Option<Found> {
+/// The result of a row on the commands of `jbench`.
+fn found_of_command(alloc: Global, kind: &str, given: &str) -> Option<Found> {
     match kind {
         "bench" => Some(benches::bench(alloc, given)),
-        "check" => Some(commands::check(alloc, given)),
-        "clients" => Some(commands::clients(alloc, given)),
-        "format" => Some(commands::format(alloc, given)),
-        "help" => Some(commands::help(alloc, given)),
-        "printed" => Some(commands::printed(alloc, given)),
-        "recover" => Some(commands::recover(alloc, given)),
-        "run" => Some(commands::run(rt, alloc, given)),
-        "show" => Some(commands::show(alloc, given)),
-        "looked" => Some(views::looked(alloc, given)),
-        "sweep" => Some(commands::sweep(alloc, given)),
-        "upgrade" => Some(commands::upgrade(alloc, given)),
-        "usages" => Some(commands::usages(alloc, given)),
-        "words" => Some(commands::words(alloc, given)),
+        "words" => Some(words::words(alloc, given)),
         _ => None,
     }
 }

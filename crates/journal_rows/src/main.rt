@@ -2,17 +2,17 @@
 //! held, and each row that did not.
 //!
 //! `row_file` reads a file of rows, `repetition` expands a row's repetitions, `kinds` finds a row's function, and `report` compares the
-//! result with the wanted one. `log_rows` and `run_rows` have the functions for blocks, logs, openings and runs; `commands` those for
-//! commands of `jbench`, and `views` those for its look-ups.
+//! result with the wanted one. `log_rows` and `run_rows` have the functions for blocks, logs and openings, and for stops and sweeps of runs;
+//! `runs` those for whole runs, `words` and `benches` those for the words of `jbench` and its times.
 #![tactic(auto)]
 
 mod benches;
-mod commands;
 mod kinds;
 mod repetition;
 mod report;
 mod row_file;
-mod views;
+mod runs;
+mod words;
 
 use log_rows::RowError;
 use report::report_of;
