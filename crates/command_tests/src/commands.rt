@@ -1,7 +1,4 @@
-//! The output of commands over real files, and with readers and writers that fail. `journal_rows` has all other output as rows.
-mod clients;
+//! The output of commands with readers and writers that fail, and over devices in memory; words that are not UTF-8.
+mod arguments;
 mod faults;
-mod locks;
-mod log_files;
-mod objects;
-mod paths;
+mod format;

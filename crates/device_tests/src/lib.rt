@@ -9,3 +9,5 @@ mod expected;
 mod files;
 #[cfg(test)]
 mod gathered;
+#[cfg(test)]
+mod locks;
