@@ -12,6 +12,7 @@ hold.
 
 The rules are those of docs/FORMAT.md: bytes, the tests of an opening and their order, reading a log, replay, and device calls.
 """
+import hashlib
 import re
 import sys
 
@@ -220,18 +221,23 @@ def name_of(line):
 
 
 class Tally:
-    """How many images had each answer, in the order in which these came."""
+    """How many images had each answer, in the order in which these came; and a digest of the whole results."""
 
     def __init__(self):
-        self.answers, self.writes = {}, 0
+        self.answers, self.writes, self.results = {}, 0, hashlib.sha256()
 
-    def add(self, name, writes):
-        self.answers[name] = self.answers.get(name, 0) + 1
+    def add(self, log, home_blocks, name_of):
+        line, home, writes, left = opening(log, home_blocks)
+        again, more, writes_again, _ = opening([left] + log[1:], home_blocks)
+        told = [f"{line}, writes {writes}", f"{again}, writes {writes_again}"] + home_lines({**home, **more})
+        self.results.update("".join(each + "\n" for each in told).encode())
+        self.answers[name_of(line)] = self.answers.get(name_of(line), 0) + 1
         self.writes += writes
 
     def text(self):
         lines = [f"{sum(self.answers.values())} images, writes {self.writes}"]
-        return "\n".join(lines + [f"{count} {name}" for name, count in self.answers.items()])
+        lines += [f"{count} {name}" for name, count in self.answers.items()]
+        return "\n".join(lines + [f"sha256 {self.results.hexdigest()}"])
 
 
 def series(text):
@@ -249,8 +255,7 @@ def tell_changed_bytes(given):
         for byte in series(values["bytes"]):
             for value in bytes.fromhex(values["values"]):
                 changed = log[block][:byte] + bytes([value]) + log[block][byte + 1 :]
-                line, _, writes, _ = opening(log[:block] + [changed] + log[block + 1 :], home_blocks)
-                tally.add(line, writes)
+                tally.add(log[:block] + [changed] + log[block + 1 :], home_blocks, str)
     return tally.text()
 
 
@@ -498,8 +503,7 @@ def tell_random_logs(given):
     values = dict(pair.split("=") for pair in words if pair != "wide")
     draws, tally = Draws(number(values["seed"])), Tally()
     for _ in range(int(values["images"])):
-        line, _, writes, _ = opening(*log_of(RandomLog(draws, "wide" in words).text()))
-        tally.add(name_of(line), writes)
+        tally.add(*log_of(RandomLog(draws, "wide" in words).text()), name_of)
     return tally.text()
 
 

@@ -108,16 +108,11 @@ fn found_of_command(alloc: Global, kind: &str, given: &str) -> Option<Found> {
 /// The result of a row on logs and devices.
 fn found_of_log(alloc: Global, kind: &str, given: &str) -> Option<Found> {
     match kind {
-        "chains" => Some(log_rows::contents::chains(alloc, given)),
-        "contents_after" => Some(log_rows::contents::contents_after(alloc, given)),
-        "counted_dumps" => Some(log_rows::contents::counted_dumps(alloc, given)),
-        "covered_copies" => Some(log_rows::contents::covered_copies(alloc, given)),
+        "counted_dumps" => Some(log_rows::dumping::counted_dumps(alloc, given)),
         "crashed_images" => Some(log_rows::devices::crashed_images(alloc, given)),
-        "dumps" => Some(log_rows::contents::dumps(alloc, given)),
+        "dumps" => Some(log_rows::dumping::dumps(alloc, given)),
         "memory_calls" => Some(log_rows::devices::memory_calls(alloc, given)),
-        "newest_copies" => Some(log_rows::contents::newest_copies(alloc, given)),
-        "short_dumps" => Some(log_rows::contents::short_dumps(alloc, given)),
-        "transaction_entries" => Some(log_rows::contents::transaction_entries(alloc, given)),
+        "short_dumps" => Some(log_rows::dumping::short_dumps(alloc, given)),
         _ => None,
     }
 }

@@ -4,8 +4,8 @@
 //! logs.
 #![tactic(auto)]
 
-pub mod contents;
 pub mod devices;
+pub mod dumping;
 mod error;
 pub mod formats;
 pub mod logs;

@@ -1,14 +1,13 @@
 //! Rows of openings and upgrades: of one log, of each that differs from it in a byte, and of random ones.
-mod agreement;
 mod before_damage;
 mod calls;
 mod changes;
 mod drawing;
 mod forgetting;
 mod opening;
-mod plain_opening;
 mod planning;
 mod random;
+mod tally;
 mod told;
 mod upgrading;
 

@@ -4,7 +4,6 @@ use crate::spelling::layout_in;
 use crate::telling::{refusal_text, text};
 use crate::words::{cut, number, split_width, values};
 use journal_model::JournalError;
-use journal_plain::room;
 use log_ring::{Layout, Part, Ring};
 use std::alloc::Global;
 use std::fmt::Write;
@@ -102,49 +101,38 @@ fn layout_of(size: u64, wide: bool, copies: u64, revokes: u64) -> Result<Layout,
     Ok(Layout::new(layout_in(size as usize, wide), copies, revokes))
 }
 
-/// By the ring, and by the plain program.
-fn need(size: u64, wide: bool, copies: u64, revokes: u64) -> Result<(u64, usize), RowError> {
+fn need(size: u64, wide: bool, copies: u64, revokes: u64) -> Result<u64, RowError> {
     let known = size == 1024 || size == 2048 || size == 4096;
     if !known || copies > 2000 || revokes > 2000 {
         return Err(RowError::Unread);
     }
-    let layout = layout_in(size as usize, wide);
-    let plain = room::need(
-        layout.block_size,
-        layout.number_bytes,
-        copies as usize,
-        revokes as usize,
-    );
-    Ok((Ring::need(layout, copies, revokes), plain))
+    Ok(Ring::need(layout_in(size as usize, wide), copies, revokes))
 }
 
-/// By the layout, and by the plain program.
-fn capacity(size: u64, wide: bool, ring: u64) -> Result<(u64, usize), RowError> {
+fn capacity(size: u64, wide: bool, ring: u64) -> Result<u64, RowError> {
     let known = size == 1024 || size == 2048 || size == 4096;
     if !known || ring < 16 || ring > 1_048_576 {
         return Err(RowError::Unread);
     }
-    let layout = layout_in(size as usize, wide);
-    let plain = room::capacity(layout.block_size, layout.number_bytes, ring as usize);
-    Ok((Layout::capacity(layout, ring), plain))
+    Ok(Layout::capacity(layout_in(size as usize, wide), ring))
 }
 
 /// Room of transactions. Given: `block=N copies=N revokes=N`, and `wide` for block numbers of 64 bits. Found: how many log blocks such a
-/// transaction needs, by the ring and by the plain program.
+/// transaction needs.
 pub fn needs(alloc: Global, given: &str) -> Result<String, RowError> {
     let (given, wide) = split_width(given);
     let [block_size, copies, revokes] = values::<3>(given, "block copies revokes")?;
-    let (need, plain) = need(block_size, wide, copies, revokes)?;
-    Ok(format!(in alloc; "{need}, plain {plain}")?)
+    let need = need(block_size, wide, copies, revokes)?;
+    Ok(format!(in alloc; "{need}")?)
 }
 
 /// The most copies of a transaction. Given: `block=N ring=N`, a block's bytes and the ring's blocks, and `wide` for block numbers of 64
-/// bits. Found: the most copies, by the layout and by the plain program.
+/// bits. Found: the most copies.
 pub fn capacities(alloc: Global, given: &str) -> Result<String, RowError> {
     let (given, wide) = split_width(given);
     let [block_size, ring] = values::<2>(given, "block ring")?;
-    let (capacity, plain) = capacity(block_size, wide, ring)?;
-    Ok(format!(in alloc; "{capacity}, plain {plain}")?)
+    let capacity = capacity(block_size, wide, ring)?;
+    Ok(format!(in alloc; "{capacity}")?)
 }
 
 fn add_part(told: &mut String, place: u64, part: Part) -> Result<(), RowError> {

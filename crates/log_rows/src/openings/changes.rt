@@ -1,7 +1,8 @@
 //! Rows of openings of one log with single changed bytes.
 use crate::RowError;
 use crate::logs::{Log, block_at, log_of};
-use crate::openings::agreement::{Stop, Tally, agreed};
+use crate::openings::opening::told_of;
+use crate::openings::tally::Tally;
 use crate::words::{cut, hex_bytes, next_word, no_word, series, value_of};
 use journal_model::{Block, Items};
 use std::alloc::Global;
@@ -53,12 +54,10 @@ fn change_byte(
     (place, at): (u64, u64),
     values: &[u8],
     tally: &mut Tally,
-) -> Result<(), Stop> {
+) -> Result<(), RowError> {
     for value in values {
-        let log = changed(alloc, log, (place, at), *value)?;
-        let image = format!(in alloc; "block {place}, byte {at}, value {value:02x}")?;
-        let told = agreed(alloc, &log, image.as_str())?;
-        tally.add(alloc, told.answer.as_str(), told.writes)?;
+        let told = told_of(alloc, &changed(alloc, log, (place, at), *value)?)?;
+        tally.add(alloc, &told, told.answer.as_str())?;
     }
     Ok(())
 }
@@ -69,7 +68,7 @@ fn change_block(
     place: u64,
     changes: &Changes,
     tally: &mut Tally,
-) -> Result<(), Stop> {
+) -> Result<(), RowError> {
     let (first, last) = changes.bytes;
     for at in first..=last {
         change_byte(alloc, log, (place, at), &changes.values, tally)?;
@@ -77,23 +76,17 @@ fn change_block(
     Ok(())
 }
 
-fn change_all(alloc: Global, log: &Log, changes: &Changes, tally: &mut Tally) -> Result<(), Stop> {
-    let (first, last) = changes.blocks;
-    for place in first..=last {
-        change_block(alloc, log, place, changes, tally)?;
-    }
-    Ok(())
-}
-
 /// Openings of changed logs. Given: a line like `blocks=0..32 bytes=0..63 values=00ff`, and a log; each of these bytes of each of these
-/// blocks gets each value in turn. Found: the number of images, the writes of their openings, and how often each answer comes. If an
-/// opening differs from the plain program, its image is found instead. (The plain program says: a refusal writes nothing, and comes again;
-/// after any other opening a second is clean and writes nothing.)
+/// blocks gets each value in turn. Found: the number of images, the writes of their openings, how often each answer comes, and a digest, as
+/// for `random_logs`.
 pub fn changed_bytes(alloc: Global, given: &str) -> Result<String, RowError> {
     let (line, spelled) = cut(given, "\n")?;
     let changes = changes_of(alloc, line)?;
     let log = log_of(alloc, spelled)?;
     let mut tally = Tally::new(alloc);
-    let went = change_all(alloc, &log, &changes, &mut tally);
-    tally.found(alloc, went)
+    let (first, last) = changes.blocks;
+    for place in first..=last {
+        change_block(alloc, &log, place, &changes, &mut tally)?;
+    }
+    tally.text(alloc)
 }

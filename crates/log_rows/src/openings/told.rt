@@ -1,4 +1,4 @@
-//! The result of an opening, by the library or by the plain program.
+//! The result of an opening.
 use crate::RowError;
 use crate::telling::add_bytes;
 use recovery::Report;
@@ -21,15 +21,6 @@ pub struct Told {
 }
 
 impl Told {
-    /// Whether both results are the same.
-    pub fn is_as(&self, other: &Told) -> bool {
-        self.answer.as_str() == other.answer.as_str()
-            && self.writes == other.writes
-            && self.again.as_str() == other.again.as_str()
-            && self.writes_again == other.writes_again
-            && self.home.as_str() == other.home.as_str()
-    }
-
     /// Adds the text of the result.
     pub fn add_to(&self, all: &mut String) -> Result<(), AllocError> {
         let Told {
