@@ -6,22 +6,12 @@ mod ahead;
 #[cfg(test)]
 mod closes;
 #[cfg(test)]
-mod copies;
-#[cfg(test)]
 mod credits;
 #[cfg(test)]
 mod example;
 #[cfg(test)]
 mod expected;
 #[cfg(test)]
+mod holders;
+#[cfg(test)]
 mod newest;
-#[cfg(test)]
-mod reconciliations;
-#[cfg(test)]
-mod shares;
-#[cfg(test)]
-mod sides;
-#[cfg(test)]
-mod tables;
-#[cfg(test)]
-mod touches;
