@@ -1,11 +1,11 @@
-//! Four threads write, read, revoke, write directly and audit over one journal. After its close the record is judged as data, and home by
-//! the record.
+//! Four threads write, read, revoke, write directly and audit over one journal. After its close the log is opened again, and home is judged
+//! by the record.
 ghost use Rattle.std.specs.Prelude.{◌≡◌};
 
 use crate::expected::expect;
 use crate::journals::unnamed_on;
 use block_device::{Device, MemDevice};
-use journal_model::{Area, BlockNo, HandleNo, JournalError, Op, Sealed, Step};
+use journal_model::{Area, BlockNo, JournalError, Op, Sealed, Step};
 use shared_journal::{
     Journal, JournalName, Parts, Record, Seat, SharedHandle, SharedTicket, UnnamedJournal,
 };
@@ -15,7 +15,7 @@ use std::process::Abort;
 use std::sync::Wait;
 use std::test::Fail;
 use std::thread::{self, Threads, join};
-use test_logs::formatted;
+use test_logs::{formatted, opened};
 
 /// How often all four run.
 const RUNS: u64 = 100;
@@ -205,48 +205,13 @@ fn last_write(steps: &[Step], block: BlockNo) -> Option<&[u8]> {
     last
 }
 
-/// Whether a read after these steps gave the last write of its block, if any.
-fn is_true_read(before: &[Step], step: &Step) -> bool {
-    match (&step.op, last_write(before, step.block)) {
-        (Op::Read(seen), Some(bytes)) => bytes == seen.bytes(),
-        _ => true,
-    }
-}
-
-/// Whether each read of a transaction gave the last write of its block before it, if any.
-fn is_legal(sealed: &Sealed) -> bool {
-    let steps = sealed.steps.as_slice();
-    let mut is_legal = true;
-    for place in 0..steps.len() {
-        is_legal = is_true_read(&steps[..place], &steps[place]) && is_legal;
-    }
-    is_legal
-}
-
-fn times(sealed: &[Sealed], handle: HandleNo) -> u64 {
-    let mut times: u64 = 0;
-    for transaction in sealed.iter() {
-        for other in transaction.handles.as_slice().iter() {
-            if *other == handle {
-                times = times.saturating_add(1);
-            }
-        }
-    }
-    times
-}
-
-/// Whether the record has each handle once, in legal transactions.
-fn is_whole(sealed: &[Sealed]) -> bool {
+/// How many handles the record has.
+fn handles(sealed: &[Sealed]) -> u64 {
     let mut handles: u64 = 0;
-    let mut is_whole = true;
     for transaction in sealed.iter() {
-        is_whole = is_legal(transaction) && is_whole;
-        for handle in transaction.handles.as_slice().iter() {
-            is_whole = times(sealed, *handle) == 1 && is_whole;
-            handles = handles.saturating_add(1);
-        }
+        handles = handles.saturating_add(transaction.handles.len() as u64);
     }
-    is_whole && handles == ALL_HANDLES
+    handles
 }
 
 fn touches(steps: &[Step], block: BlockNo) -> bool {
@@ -295,13 +260,21 @@ fn is_home(device: &mut MemDevice, sealed: &[Sealed], block: BlockNo) -> bool {
     }
 }
 
-fn is_right(parts: Parts<MemDevice, Vec<Sealed>>) -> bool {
+/// Whether the record has all handles, and the log is opened again as a clean one whose home is as the record says.
+fn is_right(alloc: Global, parts: Parts<MemDevice, Vec<Sealed>>) -> bool {
     let Parts {
-        mut device,
+        device,
         sealed,
         committed,
     } = parts;
-    let mut is_right = committed == sealed.len() as u64 && is_whole(&sealed);
+    let Ok(opened) = opened(alloc, device) else {
+        return false;
+    };
+    let is_clean = opened.report().clean;
+    let mut device = opened.into_device();
+    let mut is_right = is_clean
+        && committed == sealed.len() as u64
+        && handles(&sealed) == ALL_HANDLES;
     for block in 0..HOME_BLOCKS {
         is_right = is_home(&mut device, &sealed, BlockNo(block)) && is_right;
     }
@@ -310,6 +283,7 @@ fn is_right(parts: Parts<MemDevice, Vec<Sealed>>) -> bool {
 
 fn worked<J: JournalName + Send + Sync, R: Threads + Wait + Abort + Sync>(
     rt: &R,
+    alloc: Global,
     unnamed: UnnamedJournal<MemDevice, Vec<Sealed>>,
 )
     requires name { unnamed.name ≡ J.name }
@@ -326,13 +300,13 @@ fn worked<J: JournalName + Send + Sync, R: Threads + Wait + Abort + Sync>(
     let Ok(parts) = journal.close() else {
         panic!(rt; "the close is refused")
     };
-    expect(rt, &(done, is_right(parts)), &(true, true));
+    expect(rt, &(done, is_right(alloc, parts)), &(true, true));
 }
 
 /// One run, over a ring that wraps several times.
 fn run<R: Threads + Wait + Abort + Sync>(rt: &R, alloc: Global) -> Result<(), JournalError> {
     let unnamed = unnamed_on(alloc, formatted(alloc, 65, HOME_BLOCKS)?)?;
-    worked::<Brand, _>(rt, unnamed);
+    worked::<Brand, _>(rt, alloc, unnamed);
     Ok(())
 }
 

@@ -10,10 +10,6 @@ mod four;
 mod held;
 pub mod journals;
 #[cfg(test)]
-mod newest;
-#[cfg(test)]
-mod reopened;
-#[cfg(test)]
 mod threads;
 #[cfg(test)]
 mod waiting;

@@ -1,9 +1,9 @@
-//! Two threads that share one journal, over a device in memory and over files.
+//! Two threads that share one journal over files.
 ghost use Rattle.std.specs.Prelude.{◌≡◌};
 
 use crate::expected::expect;
 use crate::journals::unnamed_on;
-use block_device::{Device, MemDevice};
+use block_device::Device;
 use file_device::{FileDevice, UnknownContents};
 use journal_model::BlockNo;
 use shared_journal::{
@@ -13,50 +13,12 @@ use std::fs::{File, OpenOptions};
 use std::marker::Brand;
 use std::process::Abort;
 use std::sync::Wait;
-use std::sync::atomic::{AtomicU64, Ordering};
 use std::test::Fail;
 use std::thread::{Threads, join};
 use std::{fs, io};
-use test_logs::formatted;
-
-/// How often each thread reserves.
-const ROUNDS: u64 = 1_000_000;
 
 /// Handles of each thread.
 const HANDLES: u64 = 20;
-
-/// Reserves all credits but one over and over. Returns whether two threads never had them at once.
-fn hammer<J: JournalName, D: Device>(
-    journal: &Journal<J, D>,
-    mut seat: Seat<J>,
-    held: &AtomicU64,
-) -> bool {
-    let most = journal.capacity().saturating_sub(1);
-    let mut within = true;
-    for _ in 0..ROUNDS {
-        if let Ok(credits) = journal.reserve(&mut seat, most) {
-            within = held.fetch_add(1, Ordering::SeqCst) == 0 && within;
-            held.fetch_sub(1, Ordering::SeqCst);
-            journal.give_back(credits);
-        }
-    }
-    within
-}
-
-fn hammer_at_once<J: JournalName + Send + Sync, D: Device + Send, R: Threads + Wait + Sync>(
-    rt: &R,
-    journal: &Journal<J, D>,
-    one: Seat<J>,
-    two: Seat<J>,
-) -> bool {
-    let held = AtomicU64::new(0);
-    let (first, second) = join(
-        rt,
-        || -> bool { hammer(journal, one, &held) },
-        || -> bool { hammer(journal, two, &held) },
-    );
-    first && second
-}
 
 /// Writes blocks from `first` on, each through its own handle. Returns the last ticket.
 fn write_all<J: JournalName, D: Device, R: Wait>(
@@ -142,8 +104,8 @@ fn both_stand<J: JournalName, D: Device, R: Wait>(
 }
 
 /// Whether this many credits are granted.
-fn all_are_left<J: JournalName>(
-    journal: &Journal<J, MemDevice>,
+fn all_are_left<J: JournalName, D: Device>(
+    journal: &Journal<J, D>,
     seat: &mut Seat<J>,
     all: u64,
 ) -> bool {
@@ -156,16 +118,16 @@ fn all_are_left<J: JournalName>(
     }
 }
 
-/// A quarter of the ring's 1,023 blocks holds this many copies, three descriptors and a commit block.
-const ALL: u64 = 251;
+/// A quarter of the ring's 255 blocks holds this many copies, a descriptor and a commit block.
+const ALL: u64 = 61;
 
 /// The credits that the entries of both threads hold.
 const HELD: u64 = 2 * HANDLES;
 
 /// A ticket's status, the tally, and whether one credit more than the free ones is granted, and whether the free ones are.
-fn told_before<J: JournalName, R: Wait>(
+fn told_before<J: JournalName, D: Device, R: Wait>(
     rt: &R,
-    journal: &Journal<J, MemDevice>,
+    journal: &Journal<J, D>,
     seat: &mut Seat<J>,
     ticket: &SharedTicket<J>,
 ) -> (Status, Tally, [bool; 2]) {
@@ -181,9 +143,9 @@ fn told_before<J: JournalName, R: Wait>(
 
 /// Commits the transaction of both tickets. Returns whether that was done, whether all credits are free, the second ticket's status, and
 /// the answer of `both_stand`.
-fn told_after<J: JournalName, R: Wait>(
+fn told_after<J: JournalName, D: Device, R: Wait>(
     rt: &R,
-    journal: &Journal<J, MemDevice>,
+    journal: &Journal<J, D>,
     seat: &mut Seat<J>,
     tickets: (SharedTicket<J>, SharedTicket<J>),
 ) -> (bool, bool, Status, bool) {
@@ -197,49 +159,6 @@ fn told_after<J: JournalName, R: Wait>(
         status,
         both_stand(rt, journal, first, second),
     )
-}
-
-/// Two threads reserve at once, then write at once. All is committed in one transaction, and the credits are back.
-fn shared<J: JournalName + Send + Sync, R: Threads + Wait + Abort + Sync>(
-    rt: &R,
-    unnamed: UnnamedJournal<MemDevice>,
-)
-    requires name { unnamed.name ≡ J.name }
-{
-    let (journal, mut seat) = unnamed.named::<J>();
-    let (Some(one), Some(two), Some(three), Some(four)) = (
-        journal.split_seat(&mut seat),
-        journal.split_seat(&mut seat),
-        journal.split_seat(&mut seat),
-        journal.split_seat(&mut seat),
-    ) else {
-        panic!(rt; "there is no further seat")
-    };
-    let within = hammer_at_once(rt, &journal, one, two);
-    let left = all_are_left(&journal, &mut seat, ALL);
-    expect(rt, &(journal.capacity(), within, left), &(ALL, true, true));
-    let Some(tickets) = write_at_once(rt, &journal, three, four) else {
-        panic!(rt; "a handle is refused")
-    };
-    let before = told_before(rt, &journal, &mut seat, &tickets.0);
-    let behind = told_after(rt, &journal, &mut seat, tickets);
-    let Ok(parts) = journal.close() else {
-        panic!(rt; "the close is refused")
-    };
-    let tally = Tally {
-        word: HELD,
-        entries: HELD,
-    };
-    expect(rt, &before, &(Status::Open, tally, [false, true]));
-    expect(rt, &behind, &(true, true, Status::Committed, true));
-    expect(rt, &parts.committed, &1);
-}
-
-#[test]
-fn two_threads_share_a_journal(rt: HostRuntime) -> Result<(), Fail> {
-    let unnamed = unnamed_on(rt.alloc(), formatted(rt.alloc(), 1024, 4096)?)?;
-    shared::<Brand, _>(&rt, unnamed);
-    Ok(())
 }
 
 /// The folder of the files.
@@ -271,7 +190,7 @@ fn two_files(rt: &HostRuntime) -> io::Result<FileDevice<UnknownContents>> {
     Ok(FileDevice::new(rt.alloc(), UnknownContents, 1024, log, Some(home))?)
 }
 
-/// Two threads write at once; all is committed in one transaction and written home.
+/// Two threads write at once. All is committed in one transaction and written home, and the credits are back.
 fn written<J: JournalName + Send + Sync, D: Device + Drop + Send, R: Threads + Wait + Abort + Sync>(
     rt: &R,
     unnamed: UnnamedJournal<D>,
@@ -283,15 +202,21 @@ fn written<J: JournalName + Send + Sync, D: Device + Drop + Send, R: Threads + W
     else {
         panic!(rt; "there is no further seat")
     };
-    let Some((mut first, second)) = write_at_once(rt, &journal, one, two) else {
+    let Some(tickets) = write_at_once(rt, &journal, one, two) else {
         panic!(rt; "a handle is refused")
     };
-    let committed = commit(rt, &journal, &mut first);
-    let stand = both_stand(rt, &journal, first, second);
+    let before = told_before(rt, &journal, &mut seat, &tickets.0);
+    let after = told_after(rt, &journal, &mut seat, tickets);
     let Ok(parts) = journal.close() else {
         panic!(rt; "the close is refused")
     };
-    expect(rt, &(committed, stand, parts.committed), &(true, true, 1));
+    let tally = Tally {
+        word: HELD,
+        entries: HELD,
+    };
+    expect(rt, &before, &(Status::Open, tally, [false, true]));
+    expect(rt, &after, &(true, true, Status::Committed, true));
+    expect(rt, &parts.committed, &1);
     parts.device
 }
 

@@ -3,7 +3,7 @@ ghost use Rattle.std.specs.Prelude.{◌≡◌};
 
 use crate::expected::expect;
 use crate::journals::unnamed_on;
-use block_device::{Device, StopAt};
+use block_device::{Device, MemDevice, StopAt};
 use journal_model::{BlockNo, JournalError, Tid};
 use shared_journal::{Journal, JournalName, Seat, SharedHandle, Turn, UnnamedJournal};
 use std::alloc::Global;
@@ -154,9 +154,9 @@ fn go_through_beside_turns<
 
 /// Prepares a journal so that a start without a wait is refused, and has one thread go through while another takes turns. Returns the
 /// result, and how many transactions are committed after the close.
-fn waited<J: JournalName + Send + Sync, D: Device + Drop + Send, R: Threads + Wait + Abort + Sync>(
+fn waited<J: JournalName + Send + Sync, R: Threads + Wait + Abort + Sync>(
     rt: &R,
-    unnamed: UnnamedJournal<D>,
+    unnamed: UnnamedJournal<StopAt<MemDevice>>,
     before: &Before,
 ) -> (Result<(Tid, Tid), JournalError>, u64)
     requires name { unnamed.name ≡ J.name }
@@ -180,29 +180,22 @@ fn waited<J: JournalName + Send + Sync, D: Device + Drop + Send, R: Threads + Wa
     }
 }
 
-fn waited_over<D: Device + Drop + Send, R: Threads + Wait + Abort + Sync>(
+/// Over an empty log of 33 blocks in memory, on a device that crashes at write `stop`; 0 is never. A transaction then has at most six credits.
+fn waited_over<R: Threads + Wait + Abort + Sync>(
     rt: &R,
     alloc: Global,
-    device: D,
+    stop: u64,
     before: &Before,
 ) -> Result<(Result<(Tid, Tid), JournalError>, u64), JournalError> {
+    let device = StopAt::new(formatted(alloc, 33, 64)?, stop);
     let unnamed = unnamed_on(alloc, device)?;
-    Ok(waited::<Brand, _, _>(rt, unnamed, before))
-}
-
-/// Over an empty log of 33 blocks in memory; a transaction then has at most six credits.
-fn waited_in_memory<R: Threads + Wait + Abort + Sync>(
-    rt: &R,
-    alloc: Global,
-    before: &Before,
-) -> Result<(Result<(Tid, Tid), JournalError>, u64), JournalError> {
-    waited_over(rt, alloc, formatted(alloc, 33, 64)?, before)
+    Ok(waited::<Brand, _>(rt, unnamed, before))
 }
 
 /// A start locks the transaction whose entries hold the credits, and gets them after its seal; so does a restart.
 #[test]
 fn a_start_waits_for_credits(rt: HostRuntime) -> Result<(), Fail> {
-    let told = waited_in_memory(&rt, rt.alloc(), &Before::Full)?;
+    let told = waited_over(&rt, rt.alloc(), 0, &Before::Full)?;
     expect(&rt, &told, &(Ok((Tid(3), Tid(4))), 3));
     Ok(())
 }
@@ -210,7 +203,7 @@ fn a_start_waits_for_credits(rt: HostRuntime) -> Result<(), Fail> {
 /// A start waits for the seal of a locked transaction, though credits are left.
 #[test]
 fn a_start_waits_for_a_seal(rt: HostRuntime) -> Result<(), Fail> {
-    let told = waited_in_memory(&rt, rt.alloc(), &Before::Locked)?;
+    let told = waited_over(&rt, rt.alloc(), 0, &Before::Locked)?;
     expect(&rt, &told, &(Ok((Tid(3), Tid(4))), 3));
     Ok(())
 }
@@ -218,8 +211,7 @@ fn a_start_waits_for_a_seal(rt: HostRuntime) -> Result<(), Fail> {
 /// The credits that a start waits for never come back, since the previous commit fails; the start is refused.
 #[test]
 fn a_start_ends_with_the_device(rt: HostRuntime) -> Result<(), Fail> {
-    let device = StopAt::new(formatted(rt.alloc(), 33, 64)?, 1);
-    let told = waited_over(&rt, rt.alloc(), device, &Before::Sealed)?;
+    let told = waited_over(&rt, rt.alloc(), 1, &Before::Sealed)?;
     expect(&rt, &told, &(Err(JournalError::Aborted), 0));
     Ok(())
 }
