@@ -1,6 +1,6 @@
 //! The command `bench` with clients in threads, over a device in memory, also a failing one.
 use crate::expected::expect;
-use block_device::{Device, FailOnce, MemDevice};
+use block_device::{FailOnce, MemDevice};
 use commit_times::threads::bench;
 use jbench_words::watch::Unwatched;
 use jbench_words::words::{Words, parse};
@@ -17,20 +17,20 @@ use test_logs::{formatted, opened};
 /// How many of the device's calls fail in turn.
 const FAILING_CALLS: u64 = 150;
 
-/// So few blocks that there is a checkpoint round every few commits.
-fn few_blocks(alloc: Global) -> Result<MemDevice, JournalError> {
-    formatted(alloc, 33, 64)
+/// A device whose call `fail` fails; 0 is none. So few blocks of the log that there is a checkpoint round every few commits.
+fn few_blocks(alloc: Global, fail: u64) -> Result<FailOnce<MemDevice>, JournalError> {
+    Ok(FailOnce::new(formatted(alloc, 33, 64)?, fail))
 }
 
 /// What `bench` prints of four clients; the device comes back if all was done.
-fn said<R: Threads + Wait + Sync, C: Clock + Sync, D: Device + Send + Drop>(
+fn said<R: Threads + Wait + Sync, C: Clock + Sync>(
     rt: &R,
     clock: &C,
     alloc: Global,
-    device: D,
+    device: FailOnce<MemDevice>,
     out: &mut Vec<u8>,
     err: &mut Vec<u8>,
-) -> io::Result<Option<D>> {
+) -> io::Result<Option<FailOnce<MemDevice>>> {
     let words = [
         "jbench",
         "bench",
@@ -47,7 +47,7 @@ fn said<R: Threads + Wait + Sync, C: Clock + Sync, D: Device + Send + Drop>(
     }
 }
 
-fn is_clean(alloc: Global, device: MemDevice) -> bool {
+fn is_clean(alloc: Global, device: FailOnce<MemDevice>) -> bool {
     match opened(alloc, device) {
         Ok(opened) => opened.report().clean,
         Err(_) => false,
@@ -62,7 +62,7 @@ fn is_durable<R: Threads + Wait + Sync, C: Clock + Sync>(
     out: &mut Vec<u8>,
     err: &mut Vec<u8>,
 ) -> Result<[bool; 3], Fail> {
-    let Some(device) = said(rt, clock, alloc, few_blocks(alloc)?, out, err)? else {
+    let Some(device) = said(rt, clock, alloc, few_blocks(alloc, 0)?, out, err)? else {
         return Err("a refusal".into());
     };
     let is_clean = is_clean(alloc, device);
@@ -90,7 +90,7 @@ fn is_told<R: Threads + Wait + Sync, C: Clock + Sync>(
     call: u64,
 ) -> Result<bool, Fail> {
     let (mut out, mut err) = (Vec::new(alloc), Vec::new(alloc));
-    let device = FailOnce::new(few_blocks(alloc)?, call);
+    let device = few_blocks(alloc, call)?;
     let has_failed = said(rt, clock, alloc, device, &mut out, &mut err)?.is_none();
     let told = from_utf8(&err)?;
     Ok(has_failed && told.starts_with("jbench: refusal 2 Device\n"))

@@ -35,8 +35,6 @@ enum Job {
     Streams,
     /// Flushes after every fifth handle, and checks that its own are committed.
     Beside(u64),
-    /// Commits each handle in its own thread, over several laps of the ring.
-    Leads,
 }
 
 #[derive(Clone, Copy, Debug)]
@@ -148,22 +146,6 @@ fn flush_beside<J: JournalName, D: Device, R: Record, G: Gate, W: Wait>(
     Ok(([last, last, last], all))
 }
 
-/// Returns whether each handle was committed by the call after it.
-fn lead<J: JournalName, D: Device, R: Record, G: Gate, W: Wait>(
-    rt: &W,
-    alloc: Global,
-    session: &mut Session<'_, J, D, R, G>,
-) -> Told {
-    let mut all = true;
-    for n in 0..HANDLES {
-        let ticket = write_one(rt, alloc, session, n)?;
-        session.commit_up_to(rt, ticket.tid())?;
-        all = session.status(&ticket) == Status::Committed && all;
-    }
-    let last = session.last_joined(rt);
-    Ok(([last, last, last], all))
-}
-
 impl<D: Device, R: Record, G: Gate> Task<D, R, G> for Worker {
     type Answer = Told;
 
@@ -174,7 +156,6 @@ impl<D: Device, R: Record, G: Gate> Task<D, R, G> for Worker {
             Job::Flushes => flush_thrice(rt, self.alloc, session),
             Job::Streams => stream(rt, self.alloc, session),
             Job::Beside(block) => flush_beside(rt, self.alloc, session, block),
-            Job::Leads => lead(rt, self.alloc, session),
         }
     }
 }
@@ -219,17 +200,6 @@ fn a_stream_is_committed_before_it_is_refused(rt: HostRuntime) -> Result<(), Fai
         &Some(&Ok(([Tid(2), Tid(2), Tid(2)], true))),
     );
     expect(&rt, &closed, &true);
-    Ok(())
-}
-
-#[test]
-fn a_task_commits_in_its_own_thread_over_several_laps(rt: HostRuntime) -> Result<(), Fail> {
-    let Ok((told, committed, closed)) = run(&rt, rt.alloc(), &[Job::Leads]) else {
-        return Err("the task is not run".into());
-    };
-    let last = Tid(HANDLES as u32 + 1);
-    expect(&rt, &told.first(), &Some(&Ok(([last, last, last], true))));
-    expect(&rt, &(committed, closed), &(HANDLES, true));
     Ok(())
 }
 
