@@ -20,7 +20,7 @@ use jbench_files::{
     open_pair_within, open_script, open_text, say_failure,
 };
 use jbench_help::{Shell, write_completions, write_manual};
-use jbench_logs::overwriting::say_overwritten;
+use jbench_logs::overwriting::may_overwrite;
 use jbench_logs::{logs, recovering};
 use jbench_views::{cat, dump, show};
 use jbench_words::fault::{Status, refuse_file};
@@ -183,7 +183,9 @@ fn format_both<C: Contents, W: Write + Drop, E: Write + Drop>(
         Ok(files) => files,
         Err(unopened) => return unopened.refuse(&mut err),
     };
-    say_before(rt.alloc(), words, &files, &mut err)?;
+    if !may_format(rt.alloc(), words, &files, &mut err)? {
+        return Ok(Status::Refused);
+    }
     match make_both(rt, contents, words, files) {
         Ok(device) => format_device(words, device, out, err),
         Err(unmade) => unmade.refuse(words.paths, &mut err),
@@ -206,7 +208,9 @@ fn format_log<C: Contents, W: Write + Drop, E: Write + Drop>(
         Ok(files) => files,
         Err(unopened) => return unopened.refuse(&mut err),
     };
-    say_before(rt.alloc(), words, files.pair(), &mut err)?;
+    if !may_format(rt.alloc(), words, files.pair(), &mut err)? {
+        return Ok(Status::Refused);
+    }
     match make_beside_home(rt, contents, words, files) {
         Ok(device) => format_device(words, device, out, err),
         Err(unmade) => unmade.refuse(words.paths, &mut err),
@@ -266,20 +270,47 @@ fn open_log_told<'a>(rt: &HostRuntime, words: &FormatWords<'a>) -> Result<KeptPa
     }
 }
 
-/// Prints what a log's file holds before it is made anew, unless it is empty.
-fn say_before<E: Write>(
+/// Whether the content of a log's file may be overwritten. Says what it is, unless it is empty; and if it may not, which file was made and
+/// stays. Nothing is written but lines.
+fn may_format<E: Write>(
     alloc: Global,
     words: &FormatWords<'_>,
     files: &LogPair,
     err: &mut E,
-) -> io::Result<()> {
+) -> io::Result<bool>
+    ensures kept { IfOk result (λ may. may ≡ false → words.now.discards ≡ false) }
+{
     if files.is_log_empty()? {
-        return Ok(());
+        return Ok(true);
     }
+    let may = may_overwrite_file(alloc, words, files, err)?;
+    if !may {
+        files.say_made_home(words.paths, err)?;
+    }
+    Ok(may)
+}
+
+/// Whether the content of a log's file, which is not empty, may be overwritten; says what it is.
+fn may_overwrite_file<E: Write>(
+    alloc: Global,
+    words: &FormatWords<'_>,
+    files: &LogPair,
+    err: &mut E,
+) -> io::Result<bool>
+    ensures kept { IfOk result (λ may. may ≡ false → words.now.discards ≡ false) }
+{
     match device_before(alloc, files) {
-        Ok(mut device) => say_overwritten(alloc, words.paths.log, &mut device, err),
+        Ok(mut device) => {
+            let may = may_overwrite(alloc, words.paths.log, words.discards, &mut device, err)?;
+            say_failure(&device, words.paths, err)?;
+            Ok(may)
+        }
         Err(e) if e.kind() == ErrorKind::OutOfMemory => Err(e),
-        Err(_) => Ok(()),
+        Err(_) if words.discards => Ok(true),
+        Err(e) => {
+            refuse_file(err, words.paths.log, e)?;
+            Ok(false)
+        }
     }
 }
 

@@ -81,6 +81,18 @@ impl<L: Drop> LockedPair<L> {
         Ok(self.log.file().file.metadata()?.len() == 0)
     }
 
+    /// After a refusal, prints that the home area's file stays, if this program made it.
+    ///
+    /// # Errors
+    ///
+    /// The line could not be written.
+    pub fn say_made_home(&self, paths: LogPaths<'_>, err: &mut impl Write) -> io::Result<()> {
+        if self.home.file().is_made() {
+            say_made(err, [None, Some(paths.home)])?;
+        }
+        Ok(())
+    }
+
     /// The log's file once more, with the same lock.
     pub(crate) fn log_again(&self) -> io::Result<File> {
         self.log.file().file.try_clone()

@@ -70,6 +70,13 @@ impl RegularFile {
         })
     }
 
+    /// Whether this program made it.
+    pub(crate) fn is_made(&self) -> bool
+        ensures { result ≡ self.now.is_made }
+    {
+        self.is_made
+    }
+
     /// Whether both are the same file.
     pub fn is(&self, other: &RegularFile) -> bool
         ensures { result ≡ false ↔ AreApart self.now other.now }

@@ -287,6 +287,11 @@ zeros; each is written, so they have room if the disk is full later. A missing
 file is made. Both files lose what they held; standard error says what LOG held.
 With --new a file that exists is refused, and stays as it is.
 
+A log with transactions that are not home, a damaged one and a refused one are
+kept, and nothing is written: recover them first, or with recover
+--before-damage as many transactions as can be had. With --discard what such a
+log holds is lost.
+
 No file is changed before both are open and locked. The disk gets room for both
 before anything in them is lost; if it is too small, they stay as they were. No
 file is ever removed: if one was made and the other can't be opened, the new one
@@ -299,11 +304,10 @@ With --wide the log's block numbers have 64 bits. What it then holds is read by
 this program alone: nothing is claimed of others.
 
 With --keep-home HOME stays as it is, byte for byte, and is synced. It must
-exist, with N blocks or more (default: 1). LOG still loses what it held, also
-transactions that are not home yet. Recover these first, or with recover
---before-damage as many as can be had.
+exist, with N blocks or more (default: 1).
 
-Exit status: 0 done; 1 refused: the words, a file, or the device.
+Exit status: 0 done; 1 refused: the words, a file, the log that LOG holds, or
+the device.
 
 Example: jbench format log home --block 4096 --length 1024",
     words: &[
@@ -360,6 +364,12 @@ Example: jbench format log home --block 4096 --length 1024",
             value: "",
             is_option: true,
             help: "Refuse a file that exists: both must be new, or with --keep-home the log",
+        },
+        Word {
+            name: "discard",
+            value: "",
+            is_option: true,
+            help: "Make the log even if that loses transactions: those that are not home, or what a refused log holds",
         },
     ],
 };

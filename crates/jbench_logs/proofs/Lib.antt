@@ -1,2 +1,3 @@
+pub mod Holding
 mod ReadsAfter
 mod LeftLines

@@ -2,7 +2,7 @@
 //!
 //! `logs` has `format`, `dump`, `recover` and `upgrade`. `damage` opens damaged logs and logs that are ahead, `plans` says what openings
 //! would do, and `recovering` picks one for `recover`. `objects` has the parts of what is printed as JSON, and `features` names the features
-//! of a superblock. `overwriting` describes a log that will be overwritten, `reasons` explains a refusal, `ways_out` says what an owner can
+//! of a superblock. `overwriting` says whether a log may be overwritten, `reasons` explains a refusal, `ways_out` says what an owner can
 //! do, and `watched` is a device that reports its calls. `jbench_files` opens the files of devices.
 #![tactic(auto)]
 

@@ -162,6 +162,7 @@ fn format_words<'a>(alloc: Global, matches: &ArgMatches<'a>) -> Result<FormatWor
         measures: measures_of(alloc, matches, keep_home)?,
         keep_home,
         has_to_be_new: matches.get_flag("new"),
+        discards: matches.get_flag("discard"),
     })
 }
 

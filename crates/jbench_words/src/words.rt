@@ -190,6 +190,8 @@ pub struct FormatWords<'a> {
     pub keep_home: bool,
     /// Whether to refuse a file that exists.
     pub has_to_be_new: bool,
+    /// Whether transactions that the log's file holds may be lost.
+    pub discards: bool,
 }
 
 #[derive(Drop)]

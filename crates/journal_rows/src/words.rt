@@ -99,11 +99,12 @@ fn write_stop(text: &mut String, words: &StopWords) -> Result<(), AllocError> {
 fn told_format(alloc: Global, words: &FormatWords<'_>) -> Result<String, RowError> {
     let measures = measures_text(alloc, &words.measures)?;
     Ok(format!(in alloc;
-        "format {} {}: {measures}{}{}",
+        "format {} {}: {measures}{}{}{}",
         words.paths.log,
         words.paths.home,
         if words.keep_home { ", home stays" } else { "" },
-        if words.has_to_be_new { ", new" } else { "" }
+        if words.has_to_be_new { ", new" } else { "" },
+        if words.discards { ", discards" } else { "" }
     )?)
 }
 
