@@ -8,7 +8,7 @@ use block_device::Device;
 use jbench_logs::logs::{refuse, say_opened};
 use jbench_words::fault::{self, Fault};
 use jbench_words::words::ServeWords;
-use journal_model::JournalError;
+use journal_model::{Area, JournalError};
 use nbd_server::{Done, Export, Output, Served};
 use recovery::Opened;
 use shared_journal::{Parts, UnnamedJournal, Unrecorded, create};
@@ -50,7 +50,7 @@ pub(crate) fn serve<
             return Ok(Err(device));
         }
     };
-    match say_opened(opened.report(), opened.next(), err) {
+    match say_opened_log(&opened, err) {
         Ok(()) => serve_opened(threads, alloc, words, opened, input, out, err),
         Err(Fault::Output(e)) => Err(e),
         Err(fault) => {
@@ -58,6 +58,20 @@ pub(crate) fn serve<
             Ok(Err(opened.into_device()))
         }
     }
+}
+
+/// Prints the opening's report; then how many blocks of home the log can name, if not all.
+fn say_opened_log<D: Device, E: Write>(opened: &Opened<D>, err: &mut E) -> Result<(), Fault> {
+    say_opened(opened.report(), opened.next(), err)?;
+    let nameable = opened.layout().block_limit();
+    let blocks = opened.device().blocks(Area::Home);
+    if nameable < blocks {
+        writeln!(
+            err,
+            "jbench: the log can name {nameable} of the {blocks} blocks of HOME, and no more are served: jbench upgrade LOG makes it wide, and it names more"
+        )?;
+    }
+    Ok(())
 }
 
 /// As `serve`, over an opened log.
@@ -78,6 +92,7 @@ fn serve_opened<
 ) -> io::Result<Result<D, D>>
     ensures { IfOk result (λ done. IfOk done (λ device. D.honest device → IsLeftClosed (D.state device))) }
 {
+    let nameable = opened.layout().block_limit();
     let unnamed: UnnamedJournal<D> = match create(alloc, opened) {
         Ok(unnamed) => unnamed,
         Err((opened, e)) => {
@@ -88,6 +103,7 @@ fn serve_opened<
     let export = Export {
         name: words.export,
         read_only: words.read_only,
+        nameable,
     };
     let out = Output::new(out);
     match nbd_server::serve(threads, alloc, unnamed, export, 0, input, &out) {

@@ -1,5 +1,5 @@
 -- What requests of a client do, and their answers.
-use Rattle.std.specs.Prelude.{◌≡◌, ◌≢◌, ◌≤◌, ◌<◌, ◌*◌, ◌++◌, ℕ, List, Bool, true, false, length, replicate}
+use Rattle.std.specs.Prelude.{◌≡◌, ◌≢◌, ◌≤◌, ◌<◌, ◌*◌, ◌++◌, ℕ, List, Bool, true, false, length, min, replicate}
 use Rattle.block_device.specs.State.{DeviceState}
 use Rattle.journal_model.specs.Disk.{Shape}
 use Rattle.shared_journal.specs.Moments.{WasLastJoinedThen}
@@ -44,10 +44,10 @@ pub record AnswersRead {D : Type 0} (state : D → DeviceState) (honest : D → 
   pub count : length bytes ≡ r.length
   pub reply_is : reply ≡ simple_reply 0 r.cookie ++ bytes
 
--- a volume of this shape takes it, with at most the bytes that the volume has
-pub record IsTakenBy (shape : Shape) (read_only : Bool) (r : Request) : Type 0 where
+-- a volume of this shape takes it, with at most the bytes of the blocks that it has and its log can name
+pub record IsTakenBy (shape : Shape) (nameable : ℕ) (read_only : Bool) (r : Request) : Type 0 where
   pub bytes : ℕ
-  pub within : bytes ≤ shape.home_blocks * shape.block_size
+  pub within : bytes ≤ min shape.home_blocks nameable * shape.block_size
   pub taken : IsTaken bytes read_only r
 
 -- a request that the volume takes was performed; `bytes` followed a write, and handles up to this number are noted. The answer is a
@@ -63,8 +63,8 @@ pub data IsPerformed {D : Type 0} (state : D → DeviceState) (honest : D → Ty
 
 -- the answer to a request: a refusal, which leaves this; or it was performed, as a volume of this shape takes it. A write got as many bytes
 -- as it says
-pub data IsAnswered {D : Type 0} (state : D → DeviceState) (honest : D → Type 0) (shape : Shape) (capacity : ℕ) (read_only : Bool) (r : Request) (upto : ℕ)
+pub data IsAnswered {D : Type 0} (state : D → DeviceState) (honest : D → Type 0) (shape : Shape) (capacity nameable : ℕ) (read_only : Bool) (r : Request) (upto : ℕ)
     (left : Type 0) (a : Answer) : Type 0 where
-  Refused : (e : ℕ) → e ≢ 0 → left → a ≡ Now (simple_reply e r.cookie) → IsAnswered state honest shape capacity read_only r upto left a
-  Taken : (bytes : List ℕ) → IsTakenBy shape read_only r → (r.command ≡ 1 → length bytes ≡ r.length) →
-      IsPerformed state honest shape.block_size capacity r bytes upto a → IsAnswered state honest shape capacity read_only r upto left a
+  Refused : (e : ℕ) → e ≢ 0 → left → a ≡ Now (simple_reply e r.cookie) → IsAnswered state honest shape capacity nameable read_only r upto left a
+  Taken : (bytes : List ℕ) → IsTakenBy shape nameable read_only r → (r.command ≡ 1 → length bytes ≡ r.length) →
+      IsPerformed state honest shape.block_size capacity r bytes upto a → IsAnswered state honest shape capacity nameable read_only r upto left a

@@ -1,11 +1,12 @@
 //! Decides how a request is answered, and performs it.
-ghost use Rattle.std.specs.Prelude.{◌≡◌, ◌≢◌, ◌≤◌, ◌*◌, length, IfErr, IfOk, OnOk};
+ghost use Rattle.std.specs.Prelude.{◌≡◌, ◌≢◌, ◌≤◌, ◌*◌, ◌-◌, ◌^◌, min, length, IfErr, IfOk, OnOk};
 ghost use Rattle.nbd_protocol.specs.Layout.{simple_reply};
 ghost use Rattle.nbd_protocol.specs.Requests.{IsTaken};
 ghost use Rattle.nbd_server.specs.Answers.{AnswersRead, IsAnswered, IsDone, IsPerformed, IsTakenBy};
 ghost use Rattle.nbd_server.specs.declared.replies.Answer.TheVariants.{Now};
 
 use crate::buffers::Buffers;
+use crate::export::Export;
 use crate::handshake::skip;
 use crate::replies::{Answer, Due, ReadReply, Reply, error_of};
 use block_device::Device;
@@ -20,14 +21,17 @@ use std::io::Read;
 use std::sync::Wait;
 use volume_service::Session;
 
-/// A volume's size in bytes.
+/// The size in bytes that is offered: home's blocks, or as many of them as the log can name.
 pub(crate) fn volume_bytes<J: JournalName, D: Device, R: Record>(
     session: &Session<'_, J, D, R>,
+    nameable: u64,
 ) -> u64
-    ensures { result ≤ J.name.shape.home_blocks * J.name.shape.block_size }
+    ensures lesser { result ≡ min (min J.name.shape.home_blocks nameable * J.name.shape.block_size) (2 ^ 64 - 1) }
+    ensures within { result ≤ min J.name.shape.home_blocks nameable * J.name.shape.block_size }
 {
     session
         .home_blocks()
+        .min(nameable)
         .saturating_mul(session.block_size() as u64)
 }
 
@@ -41,17 +45,18 @@ pub fn answer<J: JournalName, D: Device, R: Record, I: Read, W: Wait>(
     rt: &W,
     alloc: Global,
     session: &mut Session<'_, J, D, R>,
-    read_only: bool,
+    export: Export<'_>,
     stopped: &mut Stopped,
     input: &mut I,
     buffers: &mut Buffers,
     request: &Request,
 ) -> io::Result<Answer>
-    ensures answered { IfOk result (λ answer. IsAnswered D.state D.honest J.name.shape J.name.capacity read_only request.now stopped.new (session.new ≡ session.old) answer) }
+    ensures answered { IfOk result (λ answer. IsAnswered D.state D.honest J.name.shape J.name.capacity export.nameable export.read_only request.now stopped.new (session.new ≡ session.old) answer) }
     ensures untouched { IfErr result (λ e. session.new ≡ session.old) }
     ensures kept { stopped.old ≤ stopped.new }
 {
-    if let Some(error) = request.refusal(volume_bytes(session), read_only) {
+    let bytes = volume_bytes(session, export.nameable);
+    if let Some(error) = request.refusal(bytes, export.read_only) {
         return refuse(input, request, error);
     }
     if request.command == WRITE {

@@ -68,13 +68,13 @@ impl<I: Read + Drop, O: Write + Drop> Connection<'_, I, O> {
             };
             *requests = requests.saturating_add(1);
             self.send_before(rt, &request)?;
-            let (alloc, read_only) = (self.alloc, self.export.read_only);
+            let (alloc, export) = (self.alloc, self.export);
             if is_long_read(&request) {
                 self.outlet.out.lend(rt, &mut buffers.read);
             }
             let (input, buffers) = (&mut self.input, &mut buffers);
             let given = answer(
-                rt, alloc, session, read_only, stopped, input, buffers, &request,
+                rt, alloc, session, export, stopped, input, buffers, &request,
             )?;
             self.give(rt, given)?;
         }
@@ -112,7 +112,7 @@ impl<I: Read + Drop, O: Write + Drop> Connection<'_, I, O> {
         let volume = Volume {
             export: self.export,
             description: description.as_str(),
-            size: volume_bytes(session),
+            size: volume_bytes(session, self.export.nameable),
             block_size,
         };
         let (alloc, out) = (self.alloc, self.outlet.out);

@@ -7,6 +7,8 @@ pub struct Export<'a> {
     pub name: &'a str,
     /// Whether changes are refused.
     pub read_only: bool,
+    /// How many blocks of home the log can name. No more are offered, since a change of another would be refused.
+    pub nameable: u64,
 }
 
 /// An export with its volume.

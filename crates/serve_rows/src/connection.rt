@@ -60,6 +60,7 @@ pub fn serve_on<D: Device + Send + Drop, T: Threads + Wait + Sync>(
     let export = Export {
         name: given.name,
         read_only: given.read_only,
+        nameable: u64::MAX,
     };
     let client = Client::new(given, &sent);
     let Ok(served) = serve(threads, alloc, unnamed, export, KEEP, client, &out) else {
