@@ -61,13 +61,16 @@ impl From<AllocError> for Wanted {
 
 fn line_of(wanted: Wanted) -> &'static str {
     match wanted {
-        Wanted::WriteNumber => "invalid value for '--stop <K>': a number from 1 on is wanted",
-        Wanted::CallNumber => "invalid value for '--fail <K>': a number from 1 on is wanted",
+        Wanted::WriteNumber =>
+            "invalid value for '--stop <K>': a number from 1 to 18446744073709551615 is wanted",
+        Wanted::CallNumber =>
+            "invalid value for '--fail <K>': a number from 1 to 18446744073709551615 is wanted",
         Wanted::StopOrFail => "the argument '--stop <K>' cannot be used with '--fail <K>'",
         Wanted::WriteNumbers => {
             "invalid value for '--keep <LIST>': write numbers with commas are wanted"
         }
-        Wanted::OpeningNumber => "invalid value for '--stop2 <K>': a number from 1 on is wanted",
+        Wanted::OpeningNumber =>
+            "invalid value for '--stop2 <K>': a number from 1 to 18446744073709551615 is wanted",
         Wanted::OpeningNumbers => {
             "invalid value for '--keep2 <LIST>': write numbers with commas are wanted"
         }
@@ -80,15 +83,18 @@ fn line_of(wanted: Wanted) -> &'static str {
         Wanted::HexDigits => "invalid value for '--uuid <DIGITS>': 32 hex digits are wanted",
         Wanted::Seconds => "invalid value for '--seconds <N>': 1 to 86400 is wanted",
         Wanted::Transactions => {
-            "invalid value for '--transactions <N>': a number from 1 on is wanted"
+            "invalid value for '--transactions <N>': a number from 1 to 18446744073709551615 is wanted"
         }
-        Wanted::Copies => "invalid value for '--copies <K>': a number from 1 on is wanted",
+        Wanted::Copies =>
+            "invalid value for '--copies <K>': a number from 1 to 18446744073709551615 is wanted",
         Wanted::Threads => "invalid value for '--threads <N>': 1 to 64 is wanted",
         Wanted::Wait => "invalid value for '--wait <SECONDS>': 1 to 86400 is wanted",
-        Wanted::Place => "invalid value for '--copy <PLACE>': a number from 1 on is wanted",
+        Wanted::Place =>
+            "invalid value for '--copy <PLACE>': a number from 1 to 18446744073709551615 is wanted",
         Wanted::DamagedOrCopy => "the argument '--damaged' cannot be used with '--copy <PLACE>'",
         Wanted::JsonOrCopy => "the argument '--json' cannot be used with '--copy <PLACE>'",
-        Wanted::Block => "invalid value for '<BLOCK>': a number from 0 on is wanted",
+        Wanted::Block =>
+            "invalid value for '<BLOCK>': a number from 0 to 18446744073709551615 is wanted",
         Wanted::Shell => "invalid value for '<SHELL>': bash, zsh or fish is wanted",
         Wanted::Command => "a command is wanted",
         Wanted::Memory => "memory is wanted",
