@@ -8,10 +8,9 @@ mod serving;
 
 use crate::obeying::obey;
 use file_device::UnknownContents;
-use jbench_words::fault::{Status, refuse_file, refuse_rest};
+use jbench_words::fault::{Status, refuse_rest};
 use jbench_words::{arguments, words};
 use std::fs::File;
-use std::io::ErrorKind;
 use std::process::ExitCode;
 use std::sync::Wait;
 use std::thread::Threads;
@@ -43,11 +42,7 @@ fn jbench<T: Threads + Wait + Sync>(rt: &HostRuntime, threads: &T) -> io::Result
     let arguments = arguments::read(rt, rt.alloc())?;
     match words::parse(rt.alloc(), arguments.words()) {
         Ok(words) => match arguments.no_text() {
-            Some(path) => refuse_file(
-                &mut rt.stderr(),
-                path,
-                io::Error::from(ErrorKind::InvalidFilename),
-            ),
+            Some(word) => words::refuse_no_text(rt.alloc(), &words, word, &mut rt.stderr()),
             None => obey(
                 rt,
                 threads,

@@ -49,6 +49,8 @@ pub(crate) enum Wanted {
     Block,
     /// A shell's name for `completions`.
     Shell,
+    /// UTF-8 for `--export`.
+    ExportName,
     Command,
     Memory,
 }
@@ -96,6 +98,7 @@ fn line_of(wanted: Wanted) -> &'static str {
         Wanted::Block =>
             "invalid value for '<BLOCK>': a number from 0 to 18446744073709551615 is wanted",
         Wanted::Shell => "invalid value for '<SHELL>': bash, zsh or fish is wanted",
+        Wanted::ExportName => "invalid value for '--export <NAME>': UTF-8 is wanted",
         Wanted::Command => "a command is wanted",
         Wanted::Memory => "memory is wanted",
     }

@@ -1,7 +1,7 @@
 //! Parses the program's words, and answers `--help`, `--version` and bad words.
 use crate::fault::{self, Fault, Status};
 use crate::reading::words_of;
-use crate::wanted::fault_of;
+use crate::wanted::{Wanted, fault_of};
 use clap::error::ErrorKind;
 use clap::{ArgMatches, Command, Error};
 use jbench_help::{Shell, program};
@@ -257,13 +257,44 @@ pub fn parse<'a, S: AsStr>(alloc: Global, words: &'a [S]) -> Result<Words<'a>, E
 ///
 /// The answer could not be written.
 pub fn answer(e: &Error, out: &mut impl Write, err: &mut impl Write) -> io::Result<Status> {
-    if e.kind() == ErrorKind::OutOfMemory {
-        fault::refuse(err, "", &Fault::Refused(JournalError::Memory))
-    } else if e.use_stderr() {
-        say(err, e, Status::Refused)
+    if e.use_stderr() || e.kind() == ErrorKind::OutOfMemory {
+        refuse_words(e, err)
     } else {
         say(out, e, Status::Fine)
     }
+}
+
+/// Writes what is wrong with the words, or that memory ran out.
+fn refuse_words(e: &Error, err: &mut impl Write) -> io::Result<Status> {
+    if e.kind() == ErrorKind::OutOfMemory {
+        fault::refuse(err, "", &Fault::Refused(JournalError::Memory))
+    } else {
+        say(err, e, Status::Refused)
+    }
+}
+
+/// Writes what is wrong with a word that is not UTF-8, in which wrong bytes are U+FFFD: an export's name, or a file's.
+///
+/// # Errors
+///
+/// The lines could not be written.
+pub fn refuse_no_text(
+    alloc: Global,
+    words: &Words<'_>,
+    word: &str,
+    err: &mut impl Write,
+) -> io::Result<Status> {
+    match words {
+        Words::Serve(told) if is_export(told.export, word) => {
+            refuse_words(&fault_of(alloc, "serve", Wanted::ExportName), err)
+        }
+        _ => fault::refuse_file(err, word, io::Error::from(io::ErrorKind::InvalidFilename)),
+    }
+}
+
+/// Whether a word that is not UTF-8 has this export's name, perhaps after `--export=`.
+fn is_export(name: &str, word: &str) -> bool {
+    name.contains(char::REPLACEMENT_CHARACTER) && word.ends_with(name)
 }
 
 /// Writes an answer, and gives the status back.
