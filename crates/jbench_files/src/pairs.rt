@@ -507,13 +507,32 @@ fn claim<'a, R: Files<File = File>>(
     ensures log { IfOk result (λ claimed. IfSome log.entry (λ log. AreApart log.now claimed.file.file)) }
     ensures new { IfOk result (λ claimed. has_to_be_new ≡ true → claimed.file.file.is_made ≡ true) }
 {
-    let opened = open_or_make(rt, path, has_to_be_new)?;
+    let opened = match open_or_make(rt, path, has_to_be_new) {
+        Ok(opened) => opened,
+        Err(refused) => return Err(refused_beside(rt, path, log, refused)),
+    };
     let opened = apart_from(script, opened)?;
     let claimed = locked(rt, path, apart_from(log, opened)?)?;
     if has_to_be_new {
         empty(claimed)
     } else {
         Ok(claimed)
+    }
+}
+
+/// Why a path is refused: it names the log's file, which may have been made just now, or the other cause.
+fn refused_beside<'a, R: Files<File = File>>(
+    rt: &R,
+    path: &str,
+    log: Option<&RegularFile>,
+    refused: Unclaimed<'a>,
+) -> Unclaimed<'a> {
+    match log {
+        Some(log) if require_name(rt, path, log).is_ok() => Unclaimed {
+            error: given_twice(),
+            made: refused.made,
+        },
+        _ => refused,
     }
 }
 
