@@ -76,15 +76,40 @@ pub fn bench<D: Device + Drop, C: Clock, H: Watch + Drop, W: Write + Drop, E: Wr
 ) -> io::Result<Option<D>>
     ensures { IfOk result (λ done. IfSome done (λ device. D.honest device → IsLeftClosed (D.state device))) }
 {
-    let (mut watch, mut out, mut err) = (watch, out, err);
+    let (mut watch, mut out) = (watch, out);
+    let home_blocks = device.blocks(Area::Home);
     match do_and_say(alloc, words, device, clock, &mut watch, &mut out) {
         Ok(device) => Ok(Some(device)),
-        Err(Fault::Output(e)) => Err(e),
         Err(fault) => {
-            fault::refuse(&mut err, words.paths.log, &fault)?;
+            refuse(words, home_blocks, fault, err)?;
             Ok(None)
         }
     }
+}
+
+/// Prints why it cannot go on, and if home has fewer blocks than a transaction is to have, that.
+///
+/// # Errors
+///
+/// The fault is one of output, or the lines could not be written.
+pub(crate) fn refuse<E: Write + Drop>(
+    words: &BenchWords<'_>,
+    home_blocks: u64,
+    fault: Fault,
+    mut err: E,
+) -> io::Result<()> {
+    if let Fault::Output(e) = fault {
+        return Err(e);
+    }
+    fault::refuse(&mut err, words.paths.log, &fault)?;
+    if home_blocks < words.copies {
+        writeln!(
+            err,
+            "  HOME has {home_blocks} blocks, and each transaction was to write {}: give fewer --copies",
+            words.copies
+        )?;
+    }
+    Ok(())
 }
 
 fn do_and_say<D: Device + Drop, C: Clock, H: Watch, W: Write>(

@@ -2,12 +2,12 @@
 ghost use Rattle.std.specs.Prelude.{◌≡◌, IfOk, IfSome};
 ghost use Rattle.commit_times.specs.Closed.{IsLeftClosed};
 
-use crate::bench::{Done, SEED, say};
+use crate::bench::{Done, SEED, refuse, say};
 use crate::client::{Client, Shared, now};
 use crate::counted::Counted;
 use crate::work::{Plan, close};
 use block_device::Device;
-use jbench_words::fault::{self, Fault};
+use jbench_words::fault::Fault;
 use jbench_words::watch::{Watch, WatchStep};
 use jbench_words::words::BenchWords;
 use journal_model::{Area, JournalError};
@@ -49,14 +49,14 @@ pub fn bench<
 ) -> io::Result<Option<D>>
     ensures { IfOk result (λ done. IfSome done (λ device. D.honest device → IsLeftClosed (D.state device))) }
 {
-    let (mut watch, mut out, mut err) = (watch, out, err);
+    let (mut watch, mut out) = (watch, out);
+    let home_blocks = device.blocks(Area::Home);
     match do_and_say(
         rt, clock, alloc, words, clients, device, &mut watch, &mut out,
     ) {
         Ok(device) => Ok(Some(device)),
-        Err(Fault::Output(e)) => Err(e),
         Err(fault) => {
-            fault::refuse(&mut err, words.paths.log, &fault)?;
+            refuse(words, home_blocks, fault, err)?;
             Ok(None)
         }
     }

@@ -24,7 +24,7 @@ impl Plan {
     ///
     /// # Errors
     ///
-    /// `TooMany`: home has fewer blocks.
+    /// `BadBlock`: home has fewer blocks.
     pub(crate) fn new(copies: u64, home_blocks: u64, seed: u64) -> Result<Plan, JournalError> {
         match home_blocks.checked_div(copies) {
             Some(part) if part > 0 => Ok(Plan {
@@ -32,7 +32,7 @@ impl Plan {
                 part,
                 generator: Xoshiro256PlusPlus::seed_from_u64(seed),
             }),
-            _ => Err(JournalError::TooMany),
+            _ => Err(JournalError::BadBlock),
         }
     }
 
