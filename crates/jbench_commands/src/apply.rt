@@ -18,7 +18,7 @@ use crate::faults::of_run;
 use crate::objects::Objects;
 use crate::uncommitted::{changes_in, say_open_wait, say_uncommitted};
 use block_device::{Device, read_block};
-use jbench_logs::logs::{refuse, say_opened};
+use jbench_logs::logs::{refuse, refuse_fault, say_opened};
 use jbench_words::fault::{self, Fault};
 use jbench_words::text::read_text;
 use jbench_words::words::ApplyWords;
@@ -76,7 +76,7 @@ pub fn apply<D: Device + Drop, R: Read + Drop, W: Write + Drop, E: Write + Drop>
     let prepared = match prepare(alloc, &mut device, script, out) {
         Ok(prepared) => prepared,
         Err(fault) => {
-            say_refused(words, fault, &mut err)?;
+            refuse_fault(alloc, words.script, &mut device, fault, &mut err)?;
             return Ok(Err(Unapplied::Unopened(device)));
         }
     };

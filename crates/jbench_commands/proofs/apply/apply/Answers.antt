@@ -1,3 +1,4 @@
+use Rattle.block_device.proofs.OneCall.{stays-joins}
 use Rattle.jbench_commands.specs.Applying.{after_told, ending_told}
 use Rattle.jbench_commands.proofs.Unapplying.{after-reads, only-read, unapplied-after}
 use Rattle.jbench_commands.proofs.apply.apply.Goals as goal
@@ -20,7 +21,10 @@ returns-in-Ok-apply_script-clause-done g c = record {
 
 -- after a refused script the device was only read
 pub returns-in-Err-clause-left : goal.returns-in-Err-clause-left
-returns-in-Err-clause-left g c = λ honest. only-read (g.D.Device.state c.args.device) (g.D.Device.state c.prepare.new.device) c.prepare.ensures.stays
+returns-in-Err-clause-left g c = λ honest.
+    let old = g.D.Device.state c.args.device in
+    let new = g.D.Device.state c.refuse_fault.new.device in
+    only-read old new (stays-joins old (g.D.Device.state c.prepare.new.device) new c.prepare.ensures.stays c.refuse_fault.ensures.device.stays)
 
 -- after a refused log an opening was refused
 pub returns-clause-left : goal.returns-clause-left
