@@ -85,7 +85,7 @@ pub fn apply<D: Device + Drop, R: Read + Drop, W: Write + Drop, E: Write + Drop>
         Ok(opened) => match apply_script(alloc, words, opened, prepared) {
             Ok(left) => {
                 say_uncommitted(words, changes, &left.sealed, &mut err)?;
-                say_open_wait(&left, &mut err)?;
+                say_open_wait(words, &left, &mut err)?;
                 Ok(Ok(left))
             }
             Err((unapplied, fault)) => {

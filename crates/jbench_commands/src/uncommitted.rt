@@ -52,20 +52,38 @@ pub(crate) fn say_uncommitted(
     )
 }
 
-/// Says which transaction a wait found `open`, if no later line showed it committed. A wait commits nothing.
+/// Says which transaction a wait found `open`, if no later line showed it committed. A wait commits nothing, nor does a refused commit.
 ///
 /// # Errors
 ///
-/// The line could not be written.
-pub(crate) fn say_open_wait<D>(left: &Performed<D>, err: &mut impl Write) -> io::Result<()> {
+/// The lines could not be written.
+pub(crate) fn say_open_wait<D>(
+    words: &ApplyWords<'_>,
+    left: &Performed<D>,
+    err: &mut impl Write,
+) -> io::Result<()> {
     match left.open_wait {
-        Some(tid) if !is_shown(tid, left.acknowledged) => writeln!(
-            err,
-            "jbench: a wait for transaction {} came to open, and no line after it showed that committed: [\"commit\"] has to come before it",
-            tid.0
-        ),
+        Some(tid) if !is_shown(tid, left.acknowledged) => {
+            writeln!(
+                err,
+                "jbench: a wait for transaction {} came to open, and no line after it showed that committed: [\"commit\"] has to come before it",
+                tid.0
+            )?;
+            say_room(words, err)
+        }
         _ => Ok(()),
     }
+}
+
+/// Says what lets a commit through that was refused for want of room, if the script went on after one.
+fn say_room(words: &ApplyWords<'_>, err: &mut impl Write) -> io::Result<()> {
+    if words.keep_going && !words.make_room {
+        return writeln!(
+            err,
+            "  if one came, and was refused 11 NeedSpace: --make-room brings home what is committed, and makes room"
+        );
+    }
+    Ok(())
 }
 
 /// Whether a transaction is at most the greatest that was shown committed.
