@@ -1,10 +1,11 @@
 //! The program `jbench`: reads its words, and holds closed standard streams so that no log file gets their number.
 //!
-//! `obeying` runs the command that the words name, and `serving` is the command `serve`.
+//! `obeying` runs the command that the words name, `serving` is the command `serve`, and `telling` its device.
 #![tactic(auto)]
 
 mod obeying;
 mod serving;
+mod telling;
 
 use crate::obeying::obey;
 use file_device::UnknownContents;

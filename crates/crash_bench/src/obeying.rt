@@ -6,11 +6,12 @@ ghost use Rattle.crash_bench.specs.Obeying.{HasFoundWrong, HasObeyed, IsClosedDo
 ghost use Rattle.script_threads.specs.Runs.{HasFoundFalse, HasServed};
 
 use crate::serving;
+use crate::telling::Telling;
 use commit_times::{bench, threads as timed};
 use file_device::{Contents, FileDevice};
 use jbench_commands::obeying as one_thread;
 use jbench_commands::progress::Progress;
-use jbench_files::{Text, device_of, open_pair_within, open_text, say_failure};
+use jbench_files::{Text, device_of, open_pair_within, open_text};
 use jbench_words::fault::{Status, refuse_file};
 use jbench_words::words::{BenchWords, ServeWords, Words};
 use std::io;
@@ -145,12 +146,10 @@ fn serve_device<T: Threads + Wait + Sync, C: Contents + Send, E: Write>(
     ensures { IfOk result (λ done. IfSome done (IsClosedLeft C.contents)) }
 {
     let out = BufWriter::with_capacity(rt.alloc(), GATHERED, rt.stdout())?;
+    let device = Telling::new(device, words.paths, rt.stderr());
     match serving::serve(threads, rt.alloc(), words, device, rt.stdin(), out, err)? {
-        Ok(device) => Ok(Some(device)),
-        Err(device) => {
-            say_failure(&device, words.paths, err)?;
-            Ok(None)
-        }
+        Ok(device) => Ok(Some(device.into_device())),
+        Err(_) => Ok(None),
     }
 }
 

@@ -818,7 +818,8 @@ The log is opened as by recover. The client speaks on standard input and output,
 which may be a socket. libnbd starts the server by itself; systemd and inetd
 start one for each connection. The server ends with its client. Then all that
 was written is committed, and the log is left clean, unless the device or memory
-failed. Messages go to standard error.
+failed. Messages go to standard error: the first failure of a file when it
+happens.
 
 A write of no more blocks than a transaction can have is there whole after a
 crash, or not at all. That is about a quarter of the log; the export's
