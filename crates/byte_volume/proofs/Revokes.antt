@@ -15,6 +15,11 @@ pub same_number : (old new : HandleValue) → MayHavePaid old new → new.number
 same_number old new (Paid some is) = ap (λ (h : HandleValue). h.number) is
 same_number old new (Unpaid is) = ap (λ (h : HandleValue). h.number) is
 
+-- and its transaction
+pub same_tid : (old new : HandleValue) → MayHavePaid old new → new.tid ≡ old.tid
+same_tid old new (Paid some is) = ap (λ (h : HandleValue). h.tid) is
+same_tid old new (Unpaid is) = ap (λ (h : HandleValue). h.tid) is
+
 pub one_more : (first n m k : ℕ) (start old new : List Step) → m ≡ n → old ≡ start ++ revoke_steps n first k → new ≡ old ++ revoke_step m (first + k) ∷ [] →
     new ≡ start ++ revoke_steps n first (k + 1)
 one_more first n m k start old new same so_far step =

@@ -1,13 +1,14 @@
 -- Why a change of a byte range or of blocks is refused.
 use Rattle.std.specs.Prelude.{◌≡◌, ◌^◌, ◌≤◌, ◌<◌, ◌+◌, ◌*◌, ◌/◌, ◌%◌, ℕ}
 use Rattle.journal_model.specs.declared.refusal.JournalError.{JournalError}
-use Rattle.journal_model.specs.declared.refusal.JournalError.TheVariants.{BadBlock, Memory}
+use Rattle.journal_model.specs.declared.refusal.JournalError.TheVariants.{BadBlock, Memory, SequenceEnd}
 use Rattle.block_device.specs.State.{DeviceState}
 use Rattle.journal_front.specs.Front.{IsOpenHandle, TouchRefused}
 use Rattle.journal_front.specs.Values.{HandleValue}
 use Rattle.journal_steps.specs.Values.{JournalValue}
 use Rattle.shared_journal.specs.Moments.{AtOneMoment}
 use Rattle.volume_service.specs.Session.{NotOpened}
+use Rattle.byte_volume.specs.Numbers.{IsAtLast}
 use Rattle.byte_volume.specs.Reading.{BlockRefused}
 use Rattle.byte_volume.specs.Writing.{first_whole, whole_blocks}
 
@@ -27,9 +28,15 @@ pub record StepRefused (D : Type 0) (P : ℕ → Type 0) (e : JournalError) : Ty
   pub credit : 0 < handle.left
   pub refused : AtOneMoment (λ (old new : JournalValue D). IsOpenHandle old.journal.front handle × TouchRefused old.journal.front handle b e × (new ≡ old))
 
+-- why no handle with n credits was started: its session refused it; or, at one moment, the running transaction was the last one that a
+-- later opening takes, or a later one
+pub data CouldNotStart (D : Type 0) (capacity n : ℕ) (e : JournalError) : Type 0 where
+  BySession : NotOpened D capacity n e → CouldNotStart D capacity n e
+  ByNumber : e ≡ SequenceEnd → IsAtLast D → CouldNotStart D capacity n e
+
 -- why handles that change blocks with P end early: none with so many credits, within the capacity, could be started; or a step was refused
 pub data HandleRefused (D : Type 0) (capacity : ℕ) (P : ℕ → Type 0) (e : JournalError) : Type 0 where
-  NotStarted : (credits : ℕ) → credits ≤ capacity → NotOpened D capacity credits e → HandleRefused D capacity P e
+  NotStarted : (credits : ℕ) → credits ≤ capacity → CouldNotStart D capacity credits e → HandleRefused D capacity P e
   OfStep : StepRefused D P e → HandleRefused D capacity P e
 
 -- why a part of a block could not be read: there is no buffer, or the read of the block was refused
@@ -58,5 +65,5 @@ pub data TrimRefused (D : Type 0) (size capacity offset n : ℕ) (e : JournalErr
 -- why a revoke of this many blocks through one handle is refused: the numbers pass 2^64, no handle with so many credits could be started, or a step was refused
 pub data RevokeRefused (D : Type 0) (capacity first count : ℕ) (e : JournalError) : Type 0 where
   PastEnd : 2 ^ 64 ≤ first + count → e ≡ BadBlock → RevokeRefused D capacity first count e
-  NoHandle : NotOpened D capacity count e → RevokeRefused D capacity first count e
+  NoHandle : CouldNotStart D capacity count e → RevokeRefused D capacity first count e
   AtStep : StepRefused D (IsAmong first count) e → RevokeRefused D capacity first count e

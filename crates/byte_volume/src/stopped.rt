@@ -1,5 +1,5 @@
 //! The greatest transaction of stopped handles, and the receipt for its commit.
-ghost use Rattle.std.specs.Prelude.{◌≡◌, ◌≤◌, IfErr, IfOk};
+ghost use Rattle.std.specs.Prelude.{◌≡◌, ◌≤◌, max, IfErr, IfOk};
 ghost use Rattle.volume_service.specs.Session.{NotAwaited};
 
 use block_device::Device;
@@ -43,6 +43,7 @@ impl Stopped {
     pub fn register(&mut self, tid: Tid)
         ensures noted { tid ≤ self.new }
         ensures kept { self.old ≤ self.new }
+        ensures least { self.new ≡ max self.old tid }
     {
         if self.upto.0 < tid.0 {
             self.upto = tid;

@@ -1,8 +1,10 @@
 //! Revokes the whole blocks of a byte range.
 ghost use Rattle.std.specs.Prelude.{◌≡◌, ◌≤◌, ◌<◌, ◌+◌, ◌^◌, ◌++◌, IfErr, IfOk, OnOk};
+ghost use Rattle.byte_volume.specs.Numbers.{last_taken};
 ghost use Rattle.byte_volume.specs.Refusals.{HandleRefused, IsAmong, RevokeRefused, StepRefused, TrimRefused};
 ghost use Rattle.byte_volume.specs.Writing.{RevokesBlocks, first_whole, revoke_steps, whole_blocks};
 
+use crate::numbers::start;
 use crate::stopped::Stopped;
 use block_device::Device;
 use journal_model::{BlockNo, JournalError};
@@ -26,6 +28,7 @@ pub fn trim_range<J: JournalName, D: Device, R: Record, G: Gate, W: Wait>(
 ) -> Result<(), JournalError>
     ensures blocks { OnOk result (RevokesBlocks (first_whole J.name.shape.block_size offset) stopped.new (whole_blocks J.name.shape.block_size offset count)) }
     ensures kept { stopped.old ≤ stopped.new }
+    ensures taken { stopped.old ≤ last_taken → stopped.new ≤ last_taken }
     ensures err { IfErr result (TrimRefused D J.name.shape.block_size J.name.capacity offset count) }
 {
     let Some(end) = offset.checked_add(count) else {
@@ -54,6 +57,7 @@ fn revoke_pieces<J: JournalName, D: Device, R: Record, G: Gate, W: Wait>(
     requires fits { first + blocks < 2 ^ 64 }
     ensures blocks { OnOk result (RevokesBlocks first stopped.new blocks) }
     ensures kept { stopped.old ≤ stopped.new }
+    ensures taken { stopped.old ≤ last_taken → stopped.new ≤ last_taken }
     ensures err { IfErr result (HandleRefused D J.name.capacity (IsAmong first blocks)) }
 {
     let mut done = 0;
@@ -70,7 +74,7 @@ fn revoke_pieces<J: JournalName, D: Device, R: Record, G: Gate, W: Wait>(
 /// # Errors
 ///
 /// `TooMany`: one handle cannot have so many credits. `BadBlock`: home has no such block, or the numbers pass 2^64. `Aborted`: a device
-/// failure. `SequenceEnd`. `Memory`. The handle may have revoked the first blocks.
+/// failure. `SequenceEnd`: no number is left that a later opening takes. `Memory`. The handle may have revoked the first blocks.
 pub fn revoke_blocks<J: JournalName, D: Device, R: Record, G: Gate, W: Wait>(
     rt: &W,
     session: &mut Session<'_, J, D, R, G>,
@@ -81,15 +85,16 @@ pub fn revoke_blocks<J: JournalName, D: Device, R: Record, G: Gate, W: Wait>(
     ensures steps { IfOk result (λ ticket. ticket.steps ≡ revoke_steps ticket.ticket.handle first count) }
     ensures noted { IfOk result (λ ticket. ticket.ticket.tid ≤ stopped.new) }
     ensures kept { stopped.old ≤ stopped.new }
+    ensures taken { stopped.old ≤ last_taken → stopped.new ≤ last_taken }
     ensures err { IfErr result (RevokeRefused D J.name.capacity first count) }
 {
     if first.checked_add(count).is_none() {
         return Err(JournalError::BadBlock);
     }
-    let mut handle = session.start(rt, count)?;
+    let mut handle = start(rt, session, count)?;
+    stopped.register(handle.tid());
     let revoked = revoke_all(rt, session, &mut handle, first, count);
     let ticket = session.stop(rt, handle);
-    stopped.register(ticket.tid());
     match revoked {
         Ok(()) => Ok(ticket),
         Err(e) => Err(e),
@@ -107,6 +112,7 @@ fn revoke_all<'s, J: JournalName, D: Device, R: Record, G: Gate, W: Wait>(
     requires fits { first + count < 2 ^ 64 }
     requires credits { count ≤ handle.old.handle.left }
     ensures number { OnOk result (handle.new.handle.number ≡ handle.old.handle.number) }
+    ensures tid { OnOk result (handle.new.handle.tid ≡ handle.old.handle.tid) }
     ensures steps { OnOk result (handle.new.steps ≡ handle.old.steps ++ revoke_steps handle.old.handle.number first count) }
     ensures err { IfErr result (StepRefused D (IsAmong first count)) }
 {

@@ -1,8 +1,10 @@
 //! Cuts a write of a byte range into handles, and keeps the rest of its first and last block.
 ghost use Rattle.std.specs.Prelude.{◌≡◌, ◌≤◌, ◌<◌, ◌+◌, ◌-◌, ◌*◌, ◌/◌, ◌%◌, ◌^◌, ◌++◌, true, false, length, min, replicate, IfErr, IfOk, OnOk};
+ghost use Rattle.byte_volume.specs.Numbers.{last_taken};
 ghost use Rattle.byte_volume.specs.Refusals.{CutRefused, HandleRefused, IsAmong, StepRefused, WriteRefused};
 ghost use Rattle.byte_volume.specs.Writing.{AddsHead, AddsTail, IsOverlay, LieWithin, WritesAll, WritesOnce, WritesPieces, WritesRange, write_steps};
 
+use crate::numbers::start;
 use crate::reading::read_part;
 use crate::stopped::Stopped;
 use block_device::Device;
@@ -20,7 +22,7 @@ use volume_service::Session;
 /// # Errors
 ///
 /// `BadBlock`: home has no such block, or the range ends past 2^64. `Device`: the rest of a block could not be read. `Aborted`: a device
-/// failure. `SequenceEnd`. `Memory`. Handles that wrote the first pieces have stopped, and are noted. So has the refused one, if it was
+/// failure. `SequenceEnd`: no number is left that a later opening takes. `Memory`. Handles that wrote the first pieces have stopped, and are noted. So has the refused one, if it was
 /// started: it may have written the first blocks of its piece.
 #[tactic(auto, using(crate::proofs::Pieces::not_within))]
 pub fn write_range<J: JournalName, D: Device, R: Record, G: Gate, W: Wait>(
@@ -33,6 +35,7 @@ pub fn write_range<J: JournalName, D: Device, R: Record, G: Gate, W: Wait>(
 ) -> Result<(), JournalError>
     ensures once { OnOk result (WritesAll D.state D.honest J.name.shape.block_size J.name.capacity offset bytes.now stopped.new) }
     ensures kept { stopped.old ≤ stopped.new }
+    ensures taken { stopped.old ≤ last_taken → stopped.new ≤ last_taken }
     ensures err { IfErr result (WriteRefused D.state J.name.shape.block_size J.name.capacity offset (length bytes.now)) }
 {
     if offset.checked_add(bytes.len() as u64).is_none() {
@@ -77,6 +80,7 @@ fn write_once<J: JournalName, D: Device, R: Record, G: Gate, W: Wait>(
     ensures once { IfOk result (λ ticket. WritesRange D.state D.honest J.name.shape.block_size offset bytes.now ticket) }
     ensures noted { IfOk result (λ ticket. ticket.ticket.tid ≤ stopped.new) }
     ensures kept { stopped.old ≤ stopped.new }
+    ensures taken { stopped.old ≤ last_taken → stopped.new ≤ last_taken }
     ensures err { IfErr result (WriteRefused D.state J.name.shape.block_size J.name.capacity offset (length bytes.now)) }
 {
     let size = session.block_size() as u64;
@@ -171,14 +175,15 @@ fn write_blocks<J: JournalName, D: Device, R: Record, G: Gate, W: Wait>(
     ensures steps { IfOk result (λ ticket. ticket.steps ≡ write_steps ticket.ticket.handle first J.name.shape.block_size bytes.now (length bytes.now / J.name.shape.block_size)) }
     ensures noted { IfOk result (λ ticket. ticket.ticket.tid ≤ stopped.new) }
     ensures kept { stopped.old ≤ stopped.new }
+    ensures taken { stopped.old ≤ last_taken → stopped.new ≤ last_taken }
     ensures err { IfErr result (HandleRefused D J.name.capacity (IsAmong first (length bytes.now / J.name.shape.block_size))) }
 {
     let size = session.block_size();
     let blocks = (bytes.len() / size) as u64;
-    let mut handle = session.start(rt, blocks)?;
+    let mut handle = start(rt, session, blocks)?;
+    stopped.register(handle.tid());
     let filled = fill(rt, session, &mut handle, first, bytes, size);
     let ticket = session.stop(rt, handle);
-    stopped.register(ticket.tid());
     match filled {
         Ok(()) => Ok(ticket),
         Err(e) => Err(e),
@@ -199,6 +204,7 @@ fn fill<'s, J: JournalName, D: Device, R: Record, G: Gate, W: Wait>(
     requires fits { first + length bytes.now / size < 2 ^ 64 }
     requires credits { length bytes.now / size ≤ handle.old.handle.left }
     ensures number { OnOk result (handle.new.handle.number ≡ handle.old.handle.number) }
+    ensures tid { OnOk result (handle.new.handle.tid ≡ handle.old.handle.tid) }
     ensures steps { OnOk result (handle.new.steps ≡ handle.old.steps ++ write_steps handle.old.handle.number first size bytes.now (length bytes.now / size)) }
     ensures err { IfErr result (StepRefused D (IsAmong first (length bytes.now / size))) }
 {
@@ -222,6 +228,7 @@ fn write_pieces<J: JournalName, D: Device, R: Record, G: Gate, W: Wait>(
     requires fits { offset + length bytes.now < 2 ^ 64 }
     ensures pieces { OnOk result (WritesPieces D.state D.honest J.name.shape.block_size offset stopped.new bytes.now) }
     ensures kept { stopped.old ≤ stopped.new }
+    ensures taken { stopped.old ≤ last_taken → stopped.new ≤ last_taken }
     ensures err { IfErr result (WriteRefused D.state J.name.shape.block_size J.name.capacity offset (length bytes.now)) }
 {
     let mut done = 0;
@@ -265,6 +272,7 @@ pub fn write_zeros<J: JournalName, D: Device, R: Record, G: Gate, W: Wait>(
 ) -> Result<(), JournalError>
     ensures once { OnOk result (WritesAll D.state D.honest J.name.shape.block_size J.name.capacity offset (replicate count 0) stopped.new) }
     ensures kept { stopped.old ≤ stopped.new }
+    ensures taken { stopped.old ≤ last_taken → stopped.new ≤ last_taken }
     ensures err { IfErr result (WriteRefused D.state J.name.shape.block_size J.name.capacity offset count) }
 {
     if offset.checked_add(count as u64).is_none() {
@@ -291,6 +299,7 @@ fn zero_once<J: JournalName, D: Device, R: Record, G: Gate, W: Wait>(
     requires credits { LieWithin J.name.shape.block_size offset count J.name.capacity }
     ensures once { OnOk result (WritesOnce D.state D.honest J.name.shape.block_size offset (replicate count 0) stopped.new) }
     ensures kept { stopped.old ≤ stopped.new }
+    ensures taken { stopped.old ≤ last_taken → stopped.new ≤ last_taken }
     ensures err { IfErr result (WriteRefused D.state J.name.shape.block_size J.name.capacity offset count) }
 {
     let zeros = vec![in alloc; 0u8; count]?;
@@ -311,6 +320,7 @@ fn zero_pieces<J: JournalName, D: Device, R: Record, G: Gate, W: Wait>(
     requires fits { offset + count < 2 ^ 64 }
     ensures pieces { OnOk result (WritesPieces D.state D.honest J.name.shape.block_size offset stopped.new (replicate count 0)) }
     ensures kept { stopped.old ≤ stopped.new }
+    ensures taken { stopped.old ≤ last_taken → stopped.new ≤ last_taken }
     ensures err { IfErr result (WriteRefused D.state J.name.shape.block_size J.name.capacity offset count) }
 {
     let mut done = 0;

@@ -8,6 +8,7 @@ use crate::spin::LOOKS;
 use crate::work::Plan;
 use block_device::Device;
 use jbench_words::fault::Fault;
+use jbench_words::numbers::LAST_TAKEN;
 use jbench_words::words::BenchWords;
 use journal_model::{BlockNo, JournalError};
 use shared_journal::{Journal, JournalName, Seat, SharedHandle, SharedReceipt, SharedTicket};
@@ -205,6 +206,10 @@ impl<'s, J: JournalName, D: Device, C: Clock> Client<'s, J, D, C> {
         let shared = self.shared;
         for _ in rt.forever() {
             let alone = shared.alone(rt);
+            // No other client joins meanwhile, so at most one transaction is sealed between this look and the start.
+            if shared.journal.last_joined(rt).0 >= LAST_TAKEN {
+                return Err(JournalError::SequenceEnd);
+            }
             let seen = shared.events.sealed.seen();
             match shared
                 .journal

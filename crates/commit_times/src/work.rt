@@ -4,6 +4,7 @@ ghost use Rattle.commit_times.specs.Closed.{IsLeftClosed};
 
 use block_device::Device;
 use group_commit::{FrontCalls, Handle, Journal, Receipt, Ticket};
+use jbench_words::numbers::LAST_TAKEN;
 use journal_model::{BlockNo, JournalError};
 use rand_core::{Rng, SeedableRng};
 use rand_xoshiro::Xoshiro256PlusPlus;
@@ -55,6 +56,8 @@ impl Plan {
 #[derive(Drop)]
 pub(crate) struct Work<D: Device> {
     journal: Journal<D>,
+    /// The next transaction's number.
+    next: u64,
     /// The bytes of the block that was written last.
     bytes: Vec<u8>,
 }
@@ -66,8 +69,10 @@ impl<D: Device + Drop> Work<D> {
     ///
     /// `Memory`.
     pub(crate) fn new(alloc: Global, opened: Opened<D>) -> Result<Self, JournalError> {
+        let next = u64::from(opened.next().0);
         match Journal::new(alloc, opened) {
             Ok(journal) => Ok(Work {
+                next,
                 bytes: Vec::new(alloc),
                 journal,
             }),
@@ -79,11 +84,16 @@ impl<D: Device + Drop> Work<D> {
     ///
     /// # Errors
     ///
-    /// Those of a start and a write. `TooMany`: a transaction can't have so many blocks.
+    /// Those of a start and a write. `TooMany`: a transaction can't have so many blocks. `SequenceEnd`: no later opening would take the
+    /// transaction.
     pub(crate) fn change(&mut self, plan: &mut Plan) -> Result<Ticket, JournalError> {
+        if self.next > u64::from(LAST_TAKEN) {
+            return Err(JournalError::SequenceEnd);
+        }
         let mut handle = self.journal.try_start(plan.copies)?;
         let written = self.write_all(&mut handle, plan);
         let ticket = self.journal.stop(handle);
+        self.next = u64::from(ticket.tid().0) + 1;
         match written {
             Ok(()) => Ok(ticket),
             Err(e) => Err(e),
@@ -126,7 +136,11 @@ impl<D: Device + Drop> Work<D> {
     pub(crate) fn close(self) -> Result<D, JournalError>
         ensures { IfOk result (λ device. D.honest device → IsLeftClosed (D.state device)) }
     {
-        let Work { journal, bytes: _ } = self;
+        let Work {
+            journal,
+            next: _,
+            bytes: _,
+        } = self;
         close(journal)
     }
 }

@@ -4,9 +4,11 @@ ghost use Rattle.commit_times.specs.Closed.{IsLeftClosed};
 ghost use Rattle.journal_model.specs.Disk.{Shape};
 ghost use Rattle.volume_service.specs.Ending.{IsEndedBy};
 
+use crate::telling::{FEW, say_left};
 use block_device::Device;
 use jbench_logs::logs::{refuse, say_opened};
 use jbench_words::fault::{self, Fault};
+use jbench_words::numbers::LAST_TAKEN;
 use jbench_words::words::ServeWords;
 use journal_model::{Area, JournalError};
 use nbd_server::{Done, Export, Output, Served};
@@ -60,7 +62,8 @@ pub(crate) fn serve<
     }
 }
 
-/// Prints the opening's report; then how many blocks of home the log can name, if not all.
+/// Prints the opening's report; then how many blocks of home the log can name, if not all, and how many transaction numbers are left, if
+/// few.
 fn say_opened_log<D: Device, E: Write>(opened: &Opened<D>, err: &mut E) -> Result<(), Fault> {
     say_opened(opened.report(), opened.next(), err)?;
     let nameable = opened.layout().block_limit();
@@ -70,6 +73,10 @@ fn say_opened_log<D: Device, E: Write>(opened: &Opened<D>, err: &mut E) -> Resul
             err,
             "jbench: the log can name {nameable} of the {blocks} blocks of HOME, and no more are served: jbench upgrade LOG makes it wide, and it names more"
         )?;
+    }
+    let left = LAST_TAKEN.saturating_add(1).saturating_sub(opened.next().0);
+    if left < FEW {
+        say_left(left, err)?;
     }
     Ok(())
 }

@@ -1,13 +1,20 @@
 //! A device that tells its owner at once what a server has to know while its client is connected.
 ghost use Rattle.std.specs.Prelude.{◌≡◌};
+ghost use Rattle.journal_model.specs.Layout.{header_bytes};
 
 use block_device::{Device, DeviceFault};
 use file_device::{Contents, FileDevice};
 use jbench_files::say_failure;
+use jbench_words::numbers::LAST_TAKEN;
 use jbench_words::words::LogPaths;
 use journal_model::Area;
+use journal_model::layout::{COMMIT_TYPE, HEADER_BYTES};
+use log_format::Header;
 use std::io;
 use std::io::Write;
+
+/// When so many transaction numbers are left, or fewer, the owner is told.
+pub(crate) const FEW: u32 = 10_000_000;
 
 /// A device that can say which call on its files failed last.
 pub(crate) trait SaysFailure {
@@ -21,7 +28,7 @@ impl<C: Contents> SaysFailure for FileDevice<C> {
     }
 }
 
-/// A device that prints its first failed call.
+/// A device that prints its first failed call, and the commit that leaves few transaction numbers.
 #[derive(Drop)]
 pub(crate) struct Telling<'a, D, E> {
     device: D,
@@ -82,6 +89,33 @@ fn say_failed<D: SaysFailure, E: Write>(
     device.say_failure(paths, err)
 }
 
+/// Whether these bytes are the commit block after which the owner is told of the numbers.
+fn leaves_few(area: Area, bytes: &[u8]) -> bool {
+    if area != Area::Log || bytes.len() < HEADER_BYTES {
+        return false;
+    }
+    match Header::read(bytes) {
+        Some(header) => header.block_type == COMMIT_TYPE && header.sequence == LAST_TAKEN - FEW,
+        None => false,
+    }
+}
+
+/// Prints how many transaction numbers are left, and the way out.
+///
+/// # Errors
+///
+/// The lines could not be written.
+pub(crate) fn say_left(left: u32, err: &mut impl Write) -> io::Result<()> {
+    writeln!(
+        err,
+        "jbench: transaction numbers left in this log: {left}; at 0 each change is refused"
+    )?;
+    writeln!(
+        err,
+        "  end the client, so that the log is closed, and make a new one beside the same home, by jbench format LOG HOME --keep-home"
+    )
+}
+
 impl<D: Device + SaysFailure, E: Write> Device for Telling<'_, D, E> {
     ghost use Rattle.block_device.specs.State.{CountsFaults, Moves, Stays, Writes, blocks_in};
     ghost use Rattle.journal_model.specs.Disk.{flushed, written};
@@ -96,6 +130,9 @@ impl<D: Device + SaysFailure, E: Write> Device for Telling<'_, D, E> {
     }
 
     fn write(&mut self, area: Area, n: u64, bytes: &[u8]) -> Result<(), DeviceFault> {
+        if leaves_few(area, bytes) {
+            let _told = say_left(FEW, &mut self.err);
+        }
         let done = self.device.write(area, n, bytes);
         self.tell(done)
     }

@@ -16,7 +16,7 @@ ghost use Rattle.jbench_commands.specs.Applying.{AreForDevice, AreOf, EndsWithNe
 
 use crate::faults::of_run;
 use crate::objects::Objects;
-use crate::uncommitted::{changes_in, say_open_wait, say_uncommitted};
+use crate::uncommitted::{changes_in, say_last_numbers, say_open_wait, say_uncommitted};
 use block_device::{Device, read_block};
 use jbench_logs::logs::{refuse, refuse_fault, say_opened};
 use jbench_words::fault::{self, Fault};
@@ -86,10 +86,11 @@ pub fn apply<D: Device + Drop, R: Read + Drop, W: Write + Drop, E: Write + Drop>
             Ok(left) => {
                 say_uncommitted(words, changes, &left.sealed, &mut err)?;
                 say_open_wait(words, &left, &mut err)?;
+                say_last_numbers(words.stay, &left.sealed, &mut err)?;
                 Ok(Ok(left))
             }
             Err((unapplied, fault)) => {
-                say_refused(words, fault, &mut err)?;
+                say_unapplied(words, fault, &unapplied, &mut err)?;
                 Ok(Err(unapplied))
             }
         },
@@ -146,6 +147,20 @@ fn say_refused(words: &ApplyWords<'_>, fault: Fault, err: &mut impl Write) -> io
             fault::refuse(err, words.script, &fault)?;
             Ok(())
         }
+    }
+}
+
+/// Prints why a script was not applied to its end, and whether a later opening takes what was.
+fn say_unapplied<D>(
+    words: &ApplyWords<'_>,
+    fault: Fault,
+    unapplied: &Unapplied<D>,
+    err: &mut impl Write,
+) -> io::Result<()> {
+    say_refused(words, fault, err)?;
+    match unapplied {
+        Unapplied::Undone(left) => say_last_numbers(true, &left.sealed, err),
+        Unapplied::Unopened(_) | Unapplied::Unbegun(_) => Ok(()),
     }
 }
 

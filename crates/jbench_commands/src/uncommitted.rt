@@ -1,4 +1,5 @@
 //! What an apply says about uncommitted changes, and about waits that found an open transaction.
+use jbench_words::numbers::LAST_TAKEN;
 use jbench_words::words::ApplyWords;
 use journal_model::{Op, Sealed, Tid};
 use journal_script::Operation;
@@ -84,6 +85,41 @@ fn say_room(words: &ApplyWords<'_>, err: &mut impl Write) -> io::Result<()> {
         );
     }
     Ok(())
+}
+
+/// Says that an apply committed a transaction whose number no later opening takes, and whether it is home. `stays`: the journal was not
+/// closed.
+///
+/// # Errors
+///
+/// The lines could not be written.
+pub(crate) fn say_last_numbers(
+    stays: bool,
+    sealed: &[Sealed],
+    err: &mut impl Write,
+) -> io::Result<()> {
+    let Some(last) = sealed.last() else {
+        return Ok(());
+    };
+    if last.tid.0 <= LAST_TAKEN {
+        return Ok(());
+    }
+    writeln!(
+        err,
+        "jbench: no later opening takes a transaction after {LAST_TAKEN}, and the last one is {}",
+        last.tid.0
+    )?;
+    if stays {
+        writeln!(
+            err,
+            "  what the log holds can't be brought home here: keep a copy of both files"
+        )
+    } else {
+        writeln!(
+            err,
+            "  all is home: make a new log beside the same home, by jbench format LOG HOME --keep-home"
+        )
+    }
 }
 
 /// Whether a transaction is at most the greatest that was shown committed.

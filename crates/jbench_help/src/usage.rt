@@ -819,7 +819,7 @@ which may be a socket. libnbd starts the server by itself; systemd and inetd
 start one for each connection. The server ends with its client. Then all that
 was written is committed, and the log is left clean, unless the device or memory
 failed. Messages go to standard error: the first failure of a file when it
-happens.
+happens, and when few transaction numbers are left.
 
 A write of no more blocks than a transaction can have is there whole after a
 crash, or not at all. That is about a quarter of the log; the export's

@@ -1,5 +1,6 @@
 //! Decides how a request is answered, and performs it.
 ghost use Rattle.std.specs.Prelude.{◌≡◌, ◌≢◌, ◌≤◌, ◌*◌, ◌-◌, ◌^◌, min, length, IfErr, IfOk, OnOk};
+ghost use Rattle.byte_volume.specs.Numbers.{last_taken};
 ghost use Rattle.nbd_protocol.specs.Layout.{simple_reply};
 ghost use Rattle.nbd_protocol.specs.Requests.{IsTaken};
 ghost use Rattle.nbd_server.specs.Answers.{AnswersRead, IsAnswered, IsDone, IsPerformed, IsTakenBy};
@@ -54,6 +55,7 @@ pub fn answer<J: JournalName, D: Device, R: Record, I: Read, W: Wait>(
     ensures answered { IfOk result (λ answer. IsAnswered D.state D.honest J.name.shape J.name.capacity export.nameable export.read_only request.now stopped.new (session.new ≡ session.old) answer) }
     ensures untouched { IfErr result (λ e. session.new ≡ session.old) }
     ensures kept { stopped.old ≤ stopped.new }
+    ensures taken { stopped.old ≤ last_taken → stopped.new ≤ last_taken }
 {
     let bytes = volume_bytes(session, export.nameable);
     if let Some(error) = request.refusal(bytes, export.read_only) {
@@ -96,6 +98,7 @@ pub fn perform<J: JournalName, D: Device, R: Record, W: Wait>(
 ) -> Answer
     ensures performed { IsPerformed D.state D.honest J.name.shape.block_size J.name.capacity request.now bytes.now stopped.new result }
     ensures kept { stopped.old ≤ stopped.new }
+    ensures taken { stopped.old ≤ last_taken → stopped.new ≤ last_taken }
 {
     if request.command == READ {
         return match read_reply(rt, alloc, session, request, room) {
@@ -155,6 +158,7 @@ pub fn change<J: JournalName, D: Device, R: Record, W: Wait>(
 ) -> Result<(), JournalError>
     ensures done { OnOk result (IsDone D.state D.honest J.name.shape.block_size J.name.capacity request.now bytes.now stopped.new) }
     ensures kept { stopped.old ≤ stopped.new }
+    ensures taken { stopped.old ≤ last_taken → stopped.new ≤ last_taken }
 {
     if request.length == 0 {
         return Ok(());

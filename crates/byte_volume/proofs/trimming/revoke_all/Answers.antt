@@ -1,13 +1,14 @@
 use Rattle.std.proofs.Common.{◌∙◌, ◌+◌, arith}
 use Rattle.std.proofs.lemmas.Result.{err_from_is_err_and}
 use Rattle.byte_volume.proofs.Refusals.{credits_left}
-use Rattle.byte_volume.proofs.Revokes.{one_more, same_number}
+use Rattle.byte_volume.proofs.Revokes.{one_more, same_number, same_tid}
 use Rattle.byte_volume.proofs.trimming.revoke_all.Goals as goal
 
 -- one more block is revoked
 pub loop-k-preserved : goal.loop-k-preserved
 loop-k-preserved g c = record {
   number = same_number _ _ c.in_ok-revoke.ensures.ok ∙ c.loop-k.invariant.number;
+  tid = same_tid _ _ c.in_ok-revoke.ensures.ok ∙ c.loop-k.invariant.tid;
   steps = one_more c.args.first c.args.handle.now.handle.number c.loop-k.handle.handle.number c.loop-k.k c.args.handle.now.steps c.loop-k.handle.steps
       c.revoke.new.handle.steps c.loop-k.invariant.number c.loop-k.invariant.steps c.in_ok-revoke.ensures.steps;
   left = omega (arith, c.loop-k.invariant.left, credits_left _ _ c.in_ok-revoke.ensures.ok);

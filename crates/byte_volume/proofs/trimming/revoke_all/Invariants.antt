@@ -6,6 +6,7 @@ use Rattle.byte_volume.proofs.trimming.revoke_all.Given as goal
 abbrev pub invariant-loop-k : goal.invariant-loop-k
 invariant-loop-k g l = record {
   number : l.handle.handle.number ≡ l.initial.handle.handle.number;
+  tid : l.handle.handle.tid ≡ l.initial.handle.handle.tid;
   steps : l.handle.steps ≡ l.initial.handle.steps ++ revoke_steps l.initial.handle.handle.number l.first l.k;
   left : l.count ≤ l.handle.handle.left + l.k;
 }

@@ -10,6 +10,7 @@ use Rattle.byte_volume.proofs.writing.fill.Goals as goal
 pub loop-k-preserved : goal.loop-k-preserved
 loop-k-preserved g c = record {
   number = grind (arith, common_steps);
+  tid = grind (arith, common_steps);
   steps = grind (arith, common_steps);
   left = omega (arith, c.loop-k.invariant.left, credits_left _ _ c.in_ok-write.ensures.ok);
 }

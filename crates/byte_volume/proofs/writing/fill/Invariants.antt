@@ -6,6 +6,7 @@ use Rattle.byte_volume.proofs.writing.fill.Given as goal
 abbrev pub invariant-loop-k : goal.invariant-loop-k
 invariant-loop-k g l = record {
   number : l.handle.handle.number ≡ l.initial.handle.handle.number;
+  tid : l.handle.handle.tid ≡ l.initial.handle.handle.tid;
   steps : l.handle.steps ≡ l.initial.handle.steps ++ write_steps l.initial.handle.handle.number l.first l.size l.bytes l.k;
   left : length l.bytes / l.size ≤ l.handle.handle.left + l.k;
 }
