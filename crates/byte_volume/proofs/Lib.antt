@@ -1,5 +1,5 @@
 pub mod Blocks
-pub mod Numbers
+pub mod LastNumbers
 pub mod Overlays
 pub mod Pieces
 pub mod Ranges

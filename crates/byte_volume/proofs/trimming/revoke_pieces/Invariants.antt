@@ -1,12 +1,14 @@
 use Rattle.std.proofs.Common.{◌≤◌, ◌-◌}
+use Rattle.byte_volume.specs.Numbers.{last_taken}
 use Rattle.byte_volume.specs.Writing.{RevokesBlocks}
 use Rattle.byte_volume.proofs.trimming.revoke_pieces.Given as goal
 
--- this many blocks are revoked; noted handles stay noted
+-- this many blocks are revoked; noted handles stay noted, all of transactions that a later opening takes
 abbrev pub invariant-loop-done : goal.invariant-loop-done
 invariant-loop-done g l = record {
   within : l.done ≤ l.blocks;
   kept : l.fn.stopped ≤ l.stopped;
+  taken : l.fn.stopped ≤ last_taken → l.stopped ≤ last_taken;
   revoked : RevokesBlocks l.first l.stopped l.done;
 }
 

@@ -16,6 +16,7 @@ loop-done-preserved g c =
     record {
       within = search rules;
       kept = search rules;
+      taken = λ first. c.write_once.ensures.taken (c.loop-done.invariant.taken first);
       begins = λ more cut. absurd (omega (arith, cut, ends more));
       pieces = more_bytes g.D.Device.state g.D.Device.honest _ _ _ _ c.loop-done.done c.min-count.result c.args.bytes.now _ c.in_ok-_ticket._ticket
           c.write_once.ensures.kept (search rules) c.loop-done.invariant.pieces c.in_ok-_ticket.ensures.once (search rules) c.in_ok-_ticket.ensures.noted;
@@ -38,3 +39,10 @@ returns-in_err-_ticket-clause-err g c =
     let long : length (take (c.loop-done.done + c.min-count.result - c.loop-done.done) (drop c.loop-done.done c.args.bytes.now)) ≡ c.min-count.result = grind (arith, common_steps) in
     rw (p.1, p.2) (piece_refused g.D.Device.state _ _ c.args.offset (length c.args.bytes.now) c.loop-done.done c.min-count.result _ (search rules)
     (c.loop-done.invariant.begins c.loop-done-test.true) ends (rw long at c.in_err-_ticket.ensures.err))
+
+-- the handles so far are of such transactions
+pub returns-in_err-_ticket-clause-taken : goal.returns-in_err-_ticket-clause-taken
+returns-in_err-_ticket-clause-taken g c = λ first. c.write_once.ensures.taken (c.loop-done.invariant.taken first)
+
+pub returns-clause-taken : goal.returns-clause-taken
+returns-clause-taken g c = c.loop-done.invariant.taken

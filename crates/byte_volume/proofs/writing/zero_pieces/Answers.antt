@@ -15,6 +15,7 @@ loop-done-preserved g c =
     record {
       within = search rules;
       kept = search rules;
+      taken = λ first. c.zero_once.ensures.taken (c.loop-done.invariant.taken first);
       begins = λ more cut. absurd (omega (arith, cut, ends more));
       pieces = more_zeros g.D.Device.state g.D.Device.honest _ _ _ _ c.loop-done.done c.min-some.result c.zero_once.ensures.kept c.loop-done.invariant.pieces
           c.in_ok-zero_once.ensures.once;
@@ -36,3 +37,10 @@ returns-in_err-zero_once-clause-err g c =
     c.min-some.ensures (omega arith) in
     rw (p.1, p.2) (piece_refused g.D.Device.state _ _ c.args.offset c.args.count c.loop-done.done c.min-some.result _ (search rules)
     (c.loop-done.invariant.begins c.loop-done-test.true) ends c.in_err-zero_once.ensures.err)
+
+-- the handles so far are of such transactions
+pub returns-in_err-zero_once-clause-taken : goal.returns-in_err-zero_once-clause-taken
+returns-in_err-zero_once-clause-taken g c = λ first. c.zero_once.ensures.taken (c.loop-done.invariant.taken first)
+
+pub returns-clause-taken : goal.returns-clause-taken
+returns-clause-taken g c = c.loop-done.invariant.taken
