@@ -46,13 +46,13 @@ pub fn answer<J: JournalName, D: Device, R: Record, I: Read, W: Wait>(
     rt: &W,
     alloc: Global,
     session: &mut Session<'_, J, D, R>,
-    export: Export<'_>,
+    export: &Export<'_>,
     stopped: &mut Stopped,
     input: &mut I,
     buffers: &mut Buffers,
     request: &Request,
 ) -> io::Result<Answer>
-    ensures answered { IfOk result (λ answer. IsAnswered D.state D.honest J.name.shape J.name.capacity export.old.nameable export.old.read_only request.now stopped.new (session.new ≡ session.old) answer) }
+    ensures answered { IfOk result (λ answer. IsAnswered D.state D.honest J.name.shape J.name.capacity export.now.nameable export.now.read_only request.now stopped.new (session.new ≡ session.old) answer) }
     ensures untouched { IfErr result (λ e. session.new ≡ session.old) }
     ensures kept { stopped.old ≤ stopped.new }
     ensures taken { stopped.old ≤ last_taken → stopped.new ≤ last_taken }

@@ -74,7 +74,7 @@ impl<I: Read + Drop, O: Write + Drop> Connection<'_, I, O> {
             }
             let (input, buffers) = (&mut self.input, &mut buffers);
             let given = answer(
-                rt, alloc, session, export, stopped, input, buffers, &request,
+                rt, alloc, session, &export, stopped, input, buffers, &request,
             )?;
             self.give(rt, given)?;
         }

@@ -19,12 +19,12 @@ pub returns-then-request-eq-WRITE-clause-answered : goal.returns-then-request-eq
 returns-then-request-eq-WRITE-clause-answered g c =
     let long : length c.as_slice-bytes.result.now ≡ c.args.request.now.length = grind (arith, common_steps) in
     Taken c.as_slice-bytes.result.now
-    (record { bytes = c.volume_bytes.result; within = c.volume_bytes.ensures.within; taken = c.in_default.ensures.takes })
+    (record { bytes = c.volume_bytes-bytes.result; within = c.volume_bytes-bytes.ensures.within; taken = c.in_default.ensures.takes })
     (λ is. long) c.perform.ensures.performed
 
 -- it has none
 pub returns-clause-answered : goal.returns-clause-answered
 returns-clause-answered g c =
     Taken _
-    (record { bytes = c.volume_bytes.result; within = c.volume_bytes.ensures.within; taken = c.in_default.ensures.takes })
+    (record { bytes = c.volume_bytes-bytes.result; within = c.volume_bytes-bytes.ensures.within; taken = c.in_default.ensures.takes })
     (λ is. absurd (c.if-request-eq-WRITE.false is)) c.perform-2.ensures.performed
