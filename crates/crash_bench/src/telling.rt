@@ -50,7 +50,7 @@ impl<'a, D: Device + SaysFailure + Drop, E: Write + Drop> Telling<'a, D, E> {
     }
 
     pub(crate) fn into_device(self) -> D
-        ensures { result ≡ self.device }
+        ensures { result ≡ self.entry.device }
     {
         let Telling {
             device,
