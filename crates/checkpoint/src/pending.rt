@@ -4,9 +4,6 @@ ghost use Rattle.std.specs.List.{AllByRecursion, IsDistinct};
 ghost use Rattle.journal_model.specs.Transaction.{copied};
 ghost use Rattle.checkpoint.specs.Pending.{ArePending, IsCommitted, IsOldest, IsReleased, newest_of};
 
-#[cfg(test)]
-mod tests;
-
 use crate::copies::Copies;
 use crate::steps::{drop_released, list_copies, push_listed, skip_dead, withdraw_touched};
 use crate::{HomeCopy, Version};
