@@ -1,7 +1,7 @@
 //! How the tags of a descriptor block are written and read.
-ghost use Rattle.std.specs.Prelude.{ℕ, ◌≡◌, ◌<◌, ◌≤◌, ◌+◌, ◌++◌, length, take, drop, List, MatchResult};
+ghost use Rattle.std.specs.Prelude.{ℕ, ◌≡◌, ◌<◌, ◌≤◌, ◌+◌, ◌++◌, ◌∷◌, [], length, take, drop, List, MatchResult};
 ghost use Rattle.log_model.specs.declared.log.Tag.{Tag};
-ghost use Rattle.journal_model.specs.Layout.{descriptor_type, every_number, sequence_in, tag_bytes, HasHeader, IsLayout};
+ghost use Rattle.journal_model.specs.Layout.{big_endian, descriptor_type, every_number, sequence_in, tag_bytes, HasHeader, IsLayout};
 ghost use Rattle.log_model.specs.Descriptor.{BeginsWithTag, IsDescriptor, descriptor_block, flag_word, tag_spelling, uuid_behind};
 ghost use Rattle.log_format.specs.Size.{FitDescriptor, count_of, most_tags};
 
@@ -95,15 +95,23 @@ fn write_tag(layout: LogLayout, bytes: &mut [u8], uuid: &[u8; 16], tag: &Tag) ->
     ensures bytes { bytes.new ≡ tag_spelling layout uuid.now tag.now ++ drop (tag_bytes layout + uuid_behind tag.now) bytes.old }
 {
     let end = layout.tag_bytes();
-    BigEndian::write_u32(bytes, low_half(tag.block.0));
-    BigEndian::write_u16(&mut bytes[4..], 0);
-    BigEndian::write_u16(&mut bytes[6..], flags_of(tag));
+    write_front(bytes, tag);
     write_high_half(layout, &mut bytes[8..], tag.block.0);
     if tag.same_uuid {
         return end;
     }
     bytes[end..end + UUID_BYTES].copy_from_slice(uuid);
     end + UUID_BYTES
+}
+
+/// Writes the front of a tag, which is alike in both layouts: the low half of its number, two zeros for a checksum, and its flags.
+fn write_front(bytes: &mut [u8], tag: &Tag)
+    requires { 8 ≤ length bytes.old }
+    ensures { bytes.new ≡ (big_endian 4 tag.now.block ++ (0 ∷ 0 ∷ []) ++ big_endian 2 (flag_word tag.now)) ++ drop 8 bytes.old }
+{
+    BigEndian::write_u32(bytes, low_half(tag.block.0));
+    BigEndian::write_u16(&mut bytes[4..], 0);
+    BigEndian::write_u16(&mut bytes[6..], flags_of(tag));
 }
 
 fn flags_of(tag: &Tag) -> u16

@@ -1,6 +1,6 @@
 //! How headers of the log's own blocks are read and written.
-ghost use Rattle.std.specs.Prelude.{◌≡◌, ◌≤◌, ◌++◌, true, false, length, drop, MatchOption};
-ghost use Rattle.journal_model.specs.Layout.{begins_with_magic, header, header_bytes, sequence_in, type_in};
+ghost use Rattle.std.specs.Prelude.{◌≡◌, ◌≤◌, ◌+◌, ◌++◌, true, false, length, drop, MatchOption};
+ghost use Rattle.journal_model.specs.Layout.{begins_with_magic, header, header_bytes, number_at, sequence_in, type_in};
 
 use byteorder::{BigEndian, ByteOrder};
 use journal_model::layout::MAGIC;
@@ -28,8 +28,8 @@ impl Header {
             return None;
         }
         Some(Header {
-            block_type: BigEndian::read_u32(&block[4..]),
-            sequence: BigEndian::read_u32(&block[8..]),
+            block_type: number_in(block, 4),
+            sequence: number_in(block, 8),
         })
     }
 
@@ -41,4 +41,12 @@ impl Header {
         BigEndian::write_u32(&mut block[4..], self.block_type);
         BigEndian::write_u32(&mut block[8..], self.sequence);
     }
+}
+
+/// The number in the four bytes of a block from byte `at` on.
+pub(crate) fn number_in(block: &[u8], at: usize) -> u32
+    requires { at + 4 ≤ length block.now }
+    ensures { result ≡ number_at at 4 block.now }
+{
+    BigEndian::read_u32(&block[at..])
 }

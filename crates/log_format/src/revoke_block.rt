@@ -1,10 +1,11 @@
 //! How the numbers of a revoke block are written and read.
-ghost use Rattle.std.specs.Prelude.{ℕ, ◌≡◌, ◌<◌, ◌≤◌, ◌+◌, length, take, List, MatchResult};
-ghost use Rattle.journal_model.specs.Layout.{numbers_of, revoke_type, sequence_in, HasHeader, IsLayout};
+ghost use Rattle.std.specs.Prelude.{ℕ, ◌≡◌, ◌<◌, ◌≤◌, ◌+◌, ◌*◌, length, take, List, MatchResult};
+ghost use Rattle.journal_model.specs.Layout.{every_number, number_at, numbers_of, revoke_type, sequence_in, HasHeader, IsLayout};
 ghost use Rattle.log_model.specs.RevokeBlock.{IsRevokeBlock, revoke_block};
 ghost use Rattle.log_format.specs.Size.{FitRevokeBlock, count_of};
 
 use crate::block_number::{is_outside, read_whole, write_whole};
+use crate::header::number_in;
 use crate::{Header, Malformed};
 use byteorder::{BigEndian, ByteOrder};
 use journal_model::layout::{HEADER_BYTES, REVOKE_HEADER_BYTES, REVOKE_TYPE};
@@ -62,14 +63,13 @@ impl RevokeBlock {
             (λ n. (n ≤ length numbers.new) × IsRevokeBlock layout (count_of layout home_blocks) (sequence_in block.now) block.now (take n numbers.new))
             (λ _. (bs : List ℕ) → IsRevokeBlock layout (count_of layout home_blocks) (sequence_in block.now) block.now bs → ⊥) }
     {
-        let used = BigEndian::read_u32(&block[HEADER_BYTES..]) as usize;
+        let used = number_in(block, HEADER_BYTES) as usize;
         if used < REVOKE_HEADER_BYTES || used > block.len() || used % layout.number_bytes != 0 {
             return Err(Malformed);
         }
         let count = (used - REVOKE_HEADER_BYTES) / layout.number_bytes;
         for i in 0..count {
-            let at = REVOKE_HEADER_BYTES + layout.number_bytes * i;
-            let number = read_whole(layout, &block[at..]);
+            let number = nth_number(layout, block, i);
             if is_outside(number, home_blocks) {
                 return Err(Malformed);
             }
@@ -77,4 +77,15 @@ impl RevokeBlock {
         }
         Ok(count)
     }
+}
+
+/// The number of a revoke block that `i` others precede.
+fn nth_number(layout: LogLayout, block: &[u8], i: usize) -> u64
+    requires taken { IsLayout layout }
+    requires room { 16 + layout.number_bytes * i + layout.number_bytes ≤ length block.now }
+    ensures number { result ≡ number_at (16 + layout.number_bytes * i) layout.number_bytes block.now }
+    ensures below { result < every_number layout }
+{
+    let at = REVOKE_HEADER_BYTES + layout.number_bytes * i;
+    read_whole(layout, &block[at..])
 }

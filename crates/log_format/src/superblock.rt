@@ -8,6 +8,7 @@ ghost use Rattle.log_format.specs.Accepted.{IsAccepted};
 ghost use Rattle.log_format.specs.Size.{IsBlockSize};
 
 use crate::Header;
+use crate::header::number_in;
 use byteorder::{BigEndian, ByteOrder};
 use journal_model::layout::{GREATEST_LENGTH, LEAST_LENGTH, MAGIC, SUPER_TYPE};
 use journal_model::{JournalError, LogLayout};
@@ -166,17 +167,17 @@ impl Super {
         let mut s_uuid = [0; 16];
         s_uuid.copy_from_slice(&block[0x30..0x40]);
         Super {
-            s_blocksize: BigEndian::read_u32(&block[0x0c..]),
-            s_maxlen: BigEndian::read_u32(&block[0x10..]),
-            s_first: BigEndian::read_u32(&block[0x14..]),
-            s_sequence: BigEndian::read_u32(&block[0x18..]),
-            s_start: BigEndian::read_u32(&block[0x1c..]),
-            s_errno: BigEndian::read_u32(&block[0x20..]),
-            s_feature_compat: BigEndian::read_u32(&block[0x24..]),
-            s_feature_incompat: BigEndian::read_u32(&block[0x28..]),
-            s_feature_ro_compat: BigEndian::read_u32(&block[0x2c..]),
+            s_blocksize: number_in(block, 0x0c),
+            s_maxlen: number_in(block, 0x10),
+            s_first: number_in(block, 0x14),
+            s_sequence: number_in(block, 0x18),
+            s_start: number_in(block, 0x1c),
+            s_errno: number_in(block, 0x20),
+            s_feature_compat: number_in(block, 0x24),
+            s_feature_incompat: number_in(block, 0x28),
+            s_feature_ro_compat: number_in(block, 0x2c),
             s_uuid,
-            s_nr_users: BigEndian::read_u32(&block[0x40..]),
+            s_nr_users: number_in(block, 0x40),
         }
     }
 
@@ -254,7 +255,7 @@ fn features_of(wide: bool) -> u32
 fn has_super_type(block: &[u8]) -> bool
     ensures { result ≡ (type_in block.now == super_type) }
 {
-    block.len() >= 8 && BigEndian::read_u32(&block[4..]) == SUPER_TYPE
+    block.len() >= 8 && number_in(block, 4) == SUPER_TYPE
 }
 
 fn is_block_size(size: usize) -> bool
