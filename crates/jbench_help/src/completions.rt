@@ -1,5 +1,5 @@
 //! Makes a shell complete the program's words.
-use crate::usage::{Usage, commands};
+use crate::usage::{Usage, Word, commands};
 use std::io;
 use std::io::Write;
 
@@ -85,19 +85,23 @@ fn write_bash_command<W: Write>(usage: &Usage, out: &mut W) -> io::Result<()> {
     writeln!(out, "' ;;")
 }
 
+/// The front of fish's commands, up to the program's commands.
+const FISH_BEGINS: &str = "\
+complete -c jbench -l help -d \"Print help\"
+complete -c jbench -n __fish_use_subcommand -f -a help -d \"Print help of a command\"
+";
+
+/// The end of fish's commands, after the program's commands.
+const FISH_ENDS: &str = "\
+complete -c jbench -n \"__fish_seen_subcommand_from completions\" -f -a \"bash zsh fish\"
+";
+
 fn write_fish<W: Write>(out: &mut W) -> io::Result<()> {
-    writeln!(out, "complete -c jbench -l help -d \"Print help\"")?;
-    writeln!(
-        out,
-        "complete -c jbench -n __fish_use_subcommand -f -a help -d \"Print help of a command\""
-    )?;
+    write!(out, "{FISH_BEGINS}")?;
     for usage in &commands() {
         write_fish_command(usage, out)?;
     }
-    writeln!(
-        out,
-        "complete -c jbench -n \"__fish_seen_subcommand_from completions\" -f -a \"bash zsh fish\""
-    )
+    write!(out, "{FISH_ENDS}")
 }
 
 /// Writes a command's help and options for fish.
@@ -109,13 +113,18 @@ fn write_fish_command<W: Write>(usage: &Usage, out: &mut W) -> io::Result<()> {
     )?;
     for word in usage.words {
         if word.is_option {
-            let takes = if word.value.is_empty() { "" } else { " -r" };
-            writeln!(
-                out,
-                "complete -c jbench -n \"__fish_seen_subcommand_from {name}\" -l {}{takes} -d \"{}\"",
-                word.name, word.help
-            )?;
+            write_fish_option(usage.name, word, out)?;
         }
     }
     Ok(())
+}
+
+/// Writes an option of a command for fish.
+fn write_fish_option<W: Write>(command: &str, word: &Word, out: &mut W) -> io::Result<()> {
+    let takes = if word.value.is_empty() { "" } else { " -r" };
+    writeln!(
+        out,
+        "complete -c jbench -n \"__fish_seen_subcommand_from {command}\" -l {}{takes} -d \"{}\"",
+        word.name, word.help
+    )
 }

@@ -12,11 +12,10 @@ use std::io::Write;
 pub fn write_manual<W: Write>(out: &mut W) -> io::Result<()> {
     writeln!(
         out,
-        ".TH JBENCH 1 \"\" \"jbench {VERSION}\"\n.ad l\n.nh\n.tr -\\-\n.SH NAME\njbench \\- runs, makes and recovers logs"
+        ".TH JBENCH 1 \"\" \"jbench {VERSION}\"\n.ad l\n.nh\n.tr -\\-\n.SH NAME\njbench \\- runs, makes and recovers logs\n\
+.SH SYNOPSIS\n.B jbench\nCOMMAND [OPTIONS]\n.SH DESCRIPTION\n{}.\n.SH COMMANDS",
+        PROGRAM.about
     )?;
-    writeln!(out, ".SH SYNOPSIS\n.B jbench\nCOMMAND [OPTIONS]")?;
-    writeln!(out, ".SH DESCRIPTION\n{}.", PROGRAM.about)?;
-    writeln!(out, ".SH COMMANDS")?;
     for usage in &commands() {
         write_command(usage, out)?;
     }
