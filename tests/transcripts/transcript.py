@@ -14,7 +14,8 @@ A transcript begins with lines that say what it shows. Then come its cases, each
 Lines of a terminal are set in by two blanks: a command for bash, its further lines, and then all that it prints. A line of standard error has
 `stderr: ` in front, and a status that is not 0 is the last line. Empty lines count for nothing.
 
-Where a number is another one each time, `{number}` stands for its digits; a line `{lines}` stands for one line or more.
+Where a number is another one each time, `{number}` stands for its digits; a line `{lines}` stands for one line or more, with empty ones
+between and before them.
 `<2 4 1|#=@ >` is `2=3 3=4 4=5 `: the text after the bar for each number from 2 to 4, with the number for `#`, the number plus 1 for `@`, and
 that in base 16 for `$`.
 """
@@ -102,4 +103,4 @@ def command_of(line, given, printed):
 def pattern_of(lines):
     """What matches the text of these lines."""
     parts = re.split(r"(\{number\}|\{lines\})", "".join(line + "\n" for line in lines))
-    return "".join({"{number}": r"[0-9]+", "{lines}": r"[^\n]+(?:\n[^\n]*)*?"}.get(part, re.escape(part)) for part in parts)
+    return "".join({"{number}": r"[0-9]+", "{lines}": r"\n*[^\n]+(?:\n[^\n]*)*?"}.get(part, re.escape(part)) for part in parts)
