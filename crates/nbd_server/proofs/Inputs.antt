@@ -10,12 +10,12 @@ pub none_taken : (at : Option (List ℕ)) (n : ℕ) → 0 ≡ n → TakesSome n 
 none_taken at n none = record { bytes = []; long = none; next = Consumes-nil at }
 
 -- more of them
-pub more_taken : (first then last : Option (List ℕ)) (done count all : ℕ) (bytes : List ℕ) → all ≡ done + count → length bytes ≡ count → TakesSome done (Consumes first then) →
-    Consumes then last bytes → TakesSome all (Consumes first last)
-more_taken first then last done count all bytes is long before took = record {
+pub more_taken : (first mid last : Option (List ℕ)) (done count all : ℕ) (bytes : List ℕ) → all ≡ done + count → length bytes ≡ count → TakesSome done (Consumes first mid) →
+    Consumes mid last bytes → TakesSome all (Consumes first last)
+more_taken first mid last done count all bytes is long before took = record {
   bytes = before.bytes ++ bytes;
   long = omega (arith, is, long, before.long, length-append before.bytes bytes);
-  next = Consumes-trans first then last before.bytes bytes before.next took;
+  next = Consumes-trans first mid last before.bytes bytes before.next took;
 }
 
 -- the bytes after a write came
