@@ -11,7 +11,7 @@ returns-in_err-try_reserve-clause-left g c = any_err c.from_residual.result (NoT
 
 -- no handle was started
 pub returns-in_err-handle-clause-left : goal.returns-in_err-handle-clause-left
-returns-in_err-handle-clause-left g c = any_err c.from_residual.result (NoTicket c.try_reserve.ensures.items)
+returns-in_err-handle-clause-left g c = any_err c.from_residual-in_err-handle.result (NoTicket c.try_reserve.ensures.items)
 
 -- its revokes were made
 pub returns-clause-steps : goal.returns-clause-steps

@@ -13,12 +13,12 @@ returns-in_err-try_reserve-clause-left g c = any_err c.from_residual.result (NoT
 -- no handle was started
 pub returns-in_err-handle-clause-err : goal.returns-in_err-handle-clause-err
 returns-in_err-handle-clause-err g c =
-    let p = err_from_is_err_and c.from_residual.result c.from_residual.ensures.1 in
+    let p = err_from_is_err_and c.from_residual-in_err-handle.result c.from_residual-in_err-handle.ensures.1 in
     let within = subst (λ (k : ℕ). length c.args.bytes.now / k ≤ g.J.JournalName.name.capacity) (sym c.block_size-size.ensures.size) c.requires.credits in
     rw (p.1, p.2) (NotStarted (length c.args.bytes.now / c.block_size-size.result) within c.in_err-handle.ensures.err)
 
 pub returns-in_err-handle-clause-left : goal.returns-in_err-handle-clause-left
-returns-in_err-handle-clause-left g c = any_err c.from_residual.result (NoTicket c.try_reserve.ensures.items)
+returns-in_err-handle-clause-left g c = any_err c.from_residual-in_err-handle.result (NoTicket c.try_reserve.ensures.items)
 
 -- its writes were made
 pub returns-clause-steps : goal.returns-clause-steps
