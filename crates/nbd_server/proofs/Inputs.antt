@@ -47,18 +47,18 @@ pub no_option : (at : Option (List ℕ)) → TakesOptions (Consumes at at)
 no_option at = record { bytes = []; whole = NoOption; next = Consumes-nil at }
 
 -- one more
-pub one_more_option : (first then last : Option (List ℕ)) (option : ℕ) (its : List ℕ → Type 0) → TakesOptions (Consumes first then) → TakesOption (Consumes then last) option its →
+pub one_more_option : (first mid last : Option (List ℕ)) (option : ℕ) (its : List ℕ → Type 0) → TakesOptions (Consumes first mid) → TakesOption (Consumes mid last) option its →
     TakesOptions (Consumes first last)
-one_more_option first then last option its before taken = record {
+one_more_option first mid last option its before taken = record {
   bytes = before.bytes ++ (taken.head ++ taken.data_bytes);
   whole = Further before.bytes taken.head taken.data_bytes (before.bytes ++ (taken.head ++ taken.data_bytes)) taken.header before.whole taken.long taken.is taken.data_long refl;
-  next = Consumes-trans first then last before.bytes (taken.head ++ taken.data_bytes) before.next taken.next;
+  next = Consumes-trans first mid last before.bytes (taken.head ++ taken.data_bytes) before.next taken.next;
 }
 
 -- the flags, and then options
-pub flags_and_options : {E : Type 0} (first then last : Option (List ℕ)) (flags : List ℕ) (result : Result Bool E) → length flags ≡ 4 → Consumes first then flags →
-    IfOk result (λ follow. follow ≡ true → TakesOptions (Consumes then last)) → IfOk result (λ follow. follow ≡ true → TakesHandshake (Consumes first last))
-flags_and_options first then last flags (Ok follow) four came taken = λ yes.
+pub flags_and_options : {E : Type 0} (first mid last : Option (List ℕ)) (flags : List ℕ) (result : Result Bool E) → length flags ≡ 4 → Consumes first mid flags →
+    IfOk result (λ follow. follow ≡ true → TakesOptions (Consumes mid last)) → IfOk result (λ follow. follow ≡ true → TakesHandshake (Consumes first last))
+flags_and_options first mid last flags (Ok follow) four came taken = λ yes.
     let options = taken yes in
-    record { flags = flags; options = options.bytes; four = four; whole = options.whole; next = Consumes-trans first then last flags options.bytes came options.next }
-flags_and_options first then last flags (Err e) four came taken = tt
+    record { flags = flags; options = options.bytes; four = four; whole = options.whole; next = Consumes-trans first mid last flags options.bytes came options.next }
+flags_and_options first mid last flags (Err e) four came taken = tt
