@@ -141,7 +141,7 @@ struct Told {
 ///
 /// The client could not be read, or ended within it. `InvalidData`: these bytes are no option.
 fn read_option<I: Read>(alloc: Global, input: &mut I) -> io::Result<Option<Told>>
-    ensures { IfOk result (λ next. IfSome next (λ told. TakesOption (Consumes (I.remaining input.old) (I.remaining input.new)) told.option (λ data. IfSome told.data (λ kept. kept.items ≡ data)))) }
+    ensures { IfOk result (λ next. IfSome next (λ told. TakesOption (Consumes (I.remaining input.old) (I.remaining input.new)) told.option (λ bs. IfSome told.data (λ kept. kept.items ≡ bs)))) }
 {
     let mut bytes = [0; OPTION_BYTES];
     let whole = begin(input, &mut bytes)?;
@@ -166,7 +166,7 @@ fn read_data<I: Read>(
     input: &mut I,
     header: &OptionHeader,
 ) -> io::Result<Option<Vec<u8>>>
-    ensures { IfOk result (λ told. TakesData (Consumes (I.remaining input.old) (I.remaining input.new)) header.now.length (λ data. IfSome told (λ kept. kept.items ≡ data))) }
+    ensures { IfOk result (λ told. TakesData (Consumes (I.remaining input.old) (I.remaining input.new)) header.now.length (λ bs. IfSome told (λ kept. kept.items ≡ bs))) }
 {
     if let Some(length) = header.data_bytes() {
         let mut data = vec![in alloc; 0u8; length]?;
