@@ -3,7 +3,7 @@ use Rattle.std.proofs.lemmas.Result.{IfErr-weaker, err_from_is_err_and}
 use Rattle.byte_volume.specs.Refusals.{IsAmong, StepRefused}
 use Rattle.byte_volume.specs.Refusals.HandleRefused.{NotStarted, OfStep}
 use Rattle.byte_volume.specs.Writing.MayAddTicket.{NoTicket}
-use Rattle.byte_volume.proofs.Tickets.{any_err, leaves, wrote_blocks, wrote_first}
+use Rattle.byte_volume.proofs.TicketLists.{any_err, leaves, wrote_blocks, wrote_first}
 use Rattle.byte_volume.proofs.writing.write_blocks.Goals as goal
 
 -- there is no memory for a ticket
