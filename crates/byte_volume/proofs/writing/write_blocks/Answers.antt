@@ -39,5 +39,5 @@ returns-clause-left g c =
 pub returns-clause-err : goal.returns-clause-err
 returns-clause-err g c =
     IfErr-weaker c.fill-filled.result _ _
-    (λ e why. OfStep (subst (λ (k : ℕ). StepRefused g.D.Denot (IsAmong c.args.first (length c.args.bytes.now / k)) e) c.block_size-size.ensures.size why))
+    (λ e why. OfStep (subst (λ (k : ℕ). StepRefused g.row.D.Denot (IsAmong c.args.first (length c.args.bytes.now / k)) e) c.block_size-size.ensures.size why))
     c.fill-filled.ensures.err
