@@ -11,6 +11,7 @@ use Rattle.recovery.specs.Opening.{IsDone, OpeningRefused}
 use Rattle.recovery.specs.Values.{OpenedValue}
 use Rattle.handle.specs.Name.{JournalId}
 use Rattle.handle.specs.Values.{BoardValue}
+use Rattle.locked_journal.specs.Begun.{world_begun}
 use Rattle.locked_journal.specs.Locked.{IsHeld}
 use Rattle.journal_sides.specs.Sides.{SidesValue}
 use Rattle.journal_steps.specs.Values.{JournalValue}
@@ -29,9 +30,15 @@ unnamed_value state unnamed parts s = record {
     reconciler = s.reconciler;
     capacity = unnamed.capacity;
     shape = (state s.journal.device).shape;
+    begun = s.journal.journal;
+    disk = (state s.journal.device).disk;
   };
   journal = s.journal;
 }
+
+-- The beginning that the name has is this journal's.
+abbrev pub IsBegun : {D : Type 0} → (D → DeviceState) → UnnamedValue D → Type 0
+IsBegun state unnamed = world_begun unnamed.name ≡ world_of_new state unnamed.journal.device unnamed.journal
 
 -- No credit is held, and the mark is the first one; the journal has credits, and a block has bytes.
 pub record IsUnnamed {D : Type 0} (state : D → DeviceState) (unnamed : BoardValue) (j : JournalValue D) : Type 0 where

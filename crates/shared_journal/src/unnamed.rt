@@ -10,7 +10,7 @@ ghost use Rattle.group_commit.specs.Begun.{world_of_new};
 ghost use Rattle.recovery.specs.Values.{IsNextNamed};
 ghost use Rattle.handle.specs.Rule.{greatest_allotment, greatest_capacity};
 ghost use Rattle.handle.specs.Values.{fresh_seat};
-ghost use Rattle.shared_journal.specs.Unnamed.{IsCreatedOn, NotCreatedOn};
+ghost use Rattle.shared_journal.specs.Unnamed.{IsBegun, IsCreatedOn, NotCreatedOn};
 
 use crate::journal::Journal;
 use block_device::Device;
@@ -66,6 +66,7 @@ pub fn create<D: Device, R: Record>(
     ensures fresh { IfOk result (λ unnamed. IsFresh (D.state opened.device).shape opened.superblock opened.next unnamed.journal.journal) }
     ensures device { IfOk result (λ unnamed. unnamed.journal.device ≡ opened.device) }
     ensures begins { IfOk result (λ unnamed. D.honest opened.device → Begins (world_of_new D.state opened.device unnamed.journal)) }
+    ensures begun { IfOk result (IsBegun D.state) }
     ensures err { IfErr result (λ e. (e.0 ≡ opened) × (e.1 ≡ Memory)) }
 {
     let next = opened.next();
@@ -92,6 +93,7 @@ impl<D: Device + Drop, R: Record> UnnamedJournal<D, R> {
     /// Those of `open` and `create`. The device is dropped.
     pub fn open(alloc: Global, device: D) -> Result<Self, JournalError>
         ensures created { IfOk result (λ unnamed. IsCreatedOn D.state D.honest device unnamed.journal) }
+        ensures begun { IfOk result (IsBegun D.state) }
         ensures err { IfErr result (NotCreatedOn D.state D.honest device) }
     {
         match open(alloc, device) {
