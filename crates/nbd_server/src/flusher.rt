@@ -81,7 +81,7 @@ impl<O: Write + Drop> Flusher<'_, O> {
         session: &mut Session<'_, J, D, R>,
     ) -> io::Result<()> {
         self.outlet.send(rt)?;
-        session.keep_room(rt);
+        session.room().keep(rt);
         Ok(())
     }
 }
