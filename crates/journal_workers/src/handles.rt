@@ -8,7 +8,7 @@ ghost use Rattle.handle.specs.Values.{Grants, Looks, LooksAgain, StatusIs, fresh
 ghost use Rattle.journal_front.specs.Front.{IsOpenHandle, Spends, TouchRefused};
 ghost use Rattle.journal_steps.specs.Journal.{Does, NewestRefused, RegistersRead, ReadRefused, ReadsNewest};
 ghost use Rattle.journal_steps.specs.Values.{JournalValue};
-ghost use Rattle.shared_journal.specs.Moments.{AtOneMoment, HadEntriesThen, JoinedThen, StoppedThen};
+ghost use Rattle.shared_journal.specs.Moments.{AtItsMoment, AtOneMoment, HadEntriesThen, JoinedThen, StoppedThen};
 ghost use Rattle.shared_journal.specs.Refusals.{IsReadRefusal, IsTouchRefusal, MayHavePaid, StartRefused};
 
 use block_device::Device;
@@ -161,8 +161,8 @@ impl<'s, J: JournalName, D: Device, R: Record> Handles<'s, J, D, R> {
         into: &mut [u8],
     ) -> Result<(), JournalError>
         requires { length into.old ≡ J.name.shape.block_size }
-        ensures reads { OnOk result (AtOneMoment (λ (old new : JournalValue D). ReadsNewest D.state D.honest old block into.new new)) }
-        ensures why { IfErr result (λ e. AtOneMoment (λ (old new : JournalValue D). NewestRefused D.state old block new e)) }
+        ensures reads { OnOk result (AtItsMoment D.state D.honest J.name (λ (old new : JournalValue D). ReadsNewest D.state D.honest old block into.new new)) }
+        ensures why { IfErr result (λ e. AtItsMoment D.state D.honest J.name (λ (old new : JournalValue D). NewestRefused D.state old block new e)) }
         ensures untouched { IfErr result (λ e. e ≢ DeviceFailed → into.new ≡ into.old) }
         ensures length { length into.new ≡ length into.old }
     {
