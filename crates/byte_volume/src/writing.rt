@@ -33,7 +33,7 @@ pub fn write_range<J: JournalName, D: Device, R: Record, G: Gate, W: Wait>(
     bytes: &[u8],
     stopped: &mut Stopped,
 ) -> Result<(), JournalError>
-    ensures once { OnOk result (WritesAll D.state D.honest J.name.shape.block_size J.name.capacity offset bytes.now stopped.new) }
+    ensures once { OnOk result (WritesAll D.state D.honest J.name J.name.shape.block_size J.name.capacity offset bytes.now stopped.new) }
     ensures kept { stopped.old ≤ stopped.new }
     ensures taken { stopped.old ≤ last_taken → stopped.new ≤ last_taken }
     ensures err { IfErr result (WriteRefused D.state J.name.shape.block_size J.name.capacity offset (length bytes.now)) }
@@ -77,7 +77,7 @@ fn write_once<J: JournalName, D: Device, R: Record, G: Gate, W: Wait>(
 ) -> Result<SharedTicket<J, R>, JournalError>
     requires fits { offset + length bytes.now < 2 ^ 64 }
     requires credits { LieWithin J.name.shape.block_size offset (length bytes.now) J.name.capacity }
-    ensures once { IfOk result (λ ticket. WritesRange D.state D.honest J.name.shape.block_size offset bytes.now ticket) }
+    ensures once { IfOk result (λ ticket. WritesRange D.state D.honest J.name J.name.shape.block_size offset bytes.now ticket) }
     ensures noted { IfOk result (λ ticket. ticket.ticket.tid ≤ stopped.new) }
     ensures kept { stopped.old ≤ stopped.new }
     ensures taken { stopped.old ≤ last_taken → stopped.new ≤ last_taken }
@@ -101,7 +101,7 @@ fn overlay<J: JournalName, D: Device, R: Record, G: Gate, W: Wait>(
     bytes: &[u8],
 ) -> Result<Vec<u8>, JournalError>
     requires fits { offset + length bytes.now < 2 ^ 64 }
-    ensures overlay { IfOk result (λ whole. IsOverlay D.state D.honest J.name.shape.block_size offset bytes.now whole.items) }
+    ensures overlay { IfOk result (λ whole. IsOverlay D.state D.honest J.name J.name.shape.block_size offset bytes.now whole.items) }
     ensures err { IfErr result (WriteRefused D.state J.name.shape.block_size J.name.capacity offset (length bytes.now)) }
 {
     let mut whole = Vec::new(alloc);
@@ -120,7 +120,7 @@ fn add_head<J: JournalName, D: Device, R: Record, G: Gate, W: Wait>(
     at: u64,
     list: &mut Vec<u8>,
 ) -> Result<(), JournalError>
-    ensures adds { OnOk result (AddsHead D.state D.honest J.name.shape.block_size at list.old.items list.new.items) }
+    ensures adds { OnOk result (AddsHead D.state D.honest J.name J.name.shape.block_size at list.old.items list.new.items) }
     ensures err { IfErr result (CutRefused D.state J.name.shape.block_size at) }
 {
     let size = session.block_size();
@@ -141,7 +141,7 @@ fn add_tail<J: JournalName, D: Device, R: Record, G: Gate, W: Wait>(
     at: u64,
     list: &mut Vec<u8>,
 ) -> Result<(), JournalError>
-    ensures adds { OnOk result (AddsTail D.state D.honest J.name.shape.block_size at list.old.items list.new.items) }
+    ensures adds { OnOk result (AddsTail D.state D.honest J.name J.name.shape.block_size at list.old.items list.new.items) }
     ensures err { IfErr result (CutRefused D.state J.name.shape.block_size at) }
 {
     let size = session.block_size();
@@ -226,7 +226,7 @@ fn write_pieces<J: JournalName, D: Device, R: Record, G: Gate, W: Wait>(
     stopped: &mut Stopped,
 ) -> Result<(), JournalError>
     requires fits { offset + length bytes.now < 2 ^ 64 }
-    ensures pieces { OnOk result (WritesPieces D.state D.honest J.name.shape.block_size offset stopped.new bytes.now) }
+    ensures pieces { OnOk result (WritesPieces D.state D.honest J.name J.name.shape.block_size offset stopped.new bytes.now) }
     ensures kept { stopped.old ≤ stopped.new }
     ensures taken { stopped.old ≤ last_taken → stopped.new ≤ last_taken }
     ensures err { IfErr result (WriteRefused D.state J.name.shape.block_size J.name.capacity offset (length bytes.now)) }
@@ -270,7 +270,7 @@ pub fn write_zeros<J: JournalName, D: Device, R: Record, G: Gate, W: Wait>(
     count: usize,
     stopped: &mut Stopped,
 ) -> Result<(), JournalError>
-    ensures once { OnOk result (WritesAll D.state D.honest J.name.shape.block_size J.name.capacity offset (replicate count 0) stopped.new) }
+    ensures once { OnOk result (WritesAll D.state D.honest J.name J.name.shape.block_size J.name.capacity offset (replicate count 0) stopped.new) }
     ensures kept { stopped.old ≤ stopped.new }
     ensures taken { stopped.old ≤ last_taken → stopped.new ≤ last_taken }
     ensures err { IfErr result (WriteRefused D.state J.name.shape.block_size J.name.capacity offset count) }
@@ -297,7 +297,7 @@ fn zero_once<J: JournalName, D: Device, R: Record, G: Gate, W: Wait>(
 ) -> Result<(), JournalError>
     requires fits { offset + count < 2 ^ 64 }
     requires credits { LieWithin J.name.shape.block_size offset count J.name.capacity }
-    ensures once { OnOk result (WritesOnce D.state D.honest J.name.shape.block_size offset (replicate count 0) stopped.new) }
+    ensures once { OnOk result (WritesOnce D.state D.honest J.name J.name.shape.block_size offset (replicate count 0) stopped.new) }
     ensures kept { stopped.old ≤ stopped.new }
     ensures taken { stopped.old ≤ last_taken → stopped.new ≤ last_taken }
     ensures err { IfErr result (WriteRefused D.state J.name.shape.block_size J.name.capacity offset count) }
@@ -318,7 +318,7 @@ fn zero_pieces<J: JournalName, D: Device, R: Record, G: Gate, W: Wait>(
     stopped: &mut Stopped,
 ) -> Result<(), JournalError>
     requires fits { offset + count < 2 ^ 64 }
-    ensures pieces { OnOk result (WritesPieces D.state D.honest J.name.shape.block_size offset stopped.new (replicate count 0)) }
+    ensures pieces { OnOk result (WritesPieces D.state D.honest J.name J.name.shape.block_size offset stopped.new (replicate count 0)) }
     ensures kept { stopped.old ≤ stopped.new }
     ensures taken { stopped.old ≤ last_taken → stopped.new ≤ last_taken }
     ensures err { IfErr result (WriteRefused D.state J.name.shape.block_size J.name.capacity offset count) }

@@ -52,7 +52,7 @@ pub fn answer<J: JournalName, D: Device, R: Record, I: Read, W: Wait>(
     buffers: &mut Buffers,
     request: &Request,
 ) -> io::Result<Answer>
-    ensures answered { IfOk result (λ answer. IsAnswered D.state D.honest J.name.shape J.name.capacity export.now.nameable export.now.read_only request.now stopped.new (session.new ≡ session.old) answer) }
+    ensures answered { IfOk result (λ answer. IsAnswered D.state D.honest J.name J.name.shape J.name.capacity export.now.nameable export.now.read_only request.now stopped.new (session.new ≡ session.old) answer) }
     ensures untouched { IfErr result (λ e. session.new ≡ session.old) }
     ensures kept { stopped.old ≤ stopped.new }
     ensures taken { stopped.old ≤ last_taken → stopped.new ≤ last_taken }
@@ -96,7 +96,7 @@ pub fn perform<J: JournalName, D: Device, R: Record, W: Wait>(
     bytes: &[u8],
     room: &mut Vec<u8>,
 ) -> Answer
-    ensures performed { IsPerformed D.state D.honest J.name.shape.block_size J.name.capacity request.now bytes.now stopped.new result }
+    ensures performed { IsPerformed D.state D.honest J.name J.name.shape.block_size J.name.capacity request.now bytes.now stopped.new result }
     ensures kept { stopped.old ≤ stopped.new }
     ensures taken { stopped.old ≤ last_taken → stopped.new ≤ last_taken }
 {
@@ -130,7 +130,7 @@ pub fn read_reply<J: JournalName, D: Device, R: Record, W: Wait>(
     room: &mut Vec<u8>,
 ) -> Result<ReadReply, JournalError>
     requires read { request.now.command ≡ 0 }
-    ensures { IfOk result (AnswersRead D.state D.honest J.name.shape.block_size request.now) }
+    ensures { IfOk result (AnswersRead D.state D.honest J.name J.name.shape.block_size request.now) }
 {
     let mut bytes = ReadReply::begin(alloc, request, room)?;
     read_range(
@@ -156,7 +156,7 @@ pub fn change<J: JournalName, D: Device, R: Record, W: Wait>(
     request: &Request,
     bytes: &[u8],
 ) -> Result<(), JournalError>
-    ensures done { OnOk result (IsDone D.state D.honest J.name.shape.block_size J.name.capacity request.now bytes.now stopped.new) }
+    ensures done { OnOk result (IsDone D.state D.honest J.name J.name.shape.block_size J.name.capacity request.now bytes.now stopped.new) }
     ensures kept { stopped.old ≤ stopped.new }
     ensures taken { stopped.old ≤ last_taken → stopped.new ≤ last_taken }
 {

@@ -48,7 +48,7 @@ impl Due {
         request: &Request,
         stopped: &Stopped,
     ) -> Due
-        ensures { IsOwedTo D request.now stopped.now result }
+        ensures { IsOwedTo D.state D.honest J.name request.now stopped.now result }
     {
         let (last, noted) = (session.last_joined(rt), stopped.upto());
         let upto = if last.0 < noted.0 { noted } else { last };

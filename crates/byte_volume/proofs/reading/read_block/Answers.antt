@@ -1,11 +1,6 @@
 use Rattle.shared_journal.proofs.Moments.{any-moment}
-use Rattle.byte_volume.specs.Reading.ReadsBlock.{Newest}
 use Rattle.byte_volume.proofs.Blocks.{by_journal, zeros}
 use Rattle.byte_volume.proofs.reading.read_block.Goals as goal
-
--- the journal read it
-pub returns-in-Ok-clause-reads : goal.returns-in-Ok-clause-reads
-returns-in-Ok-clause-reads g c = Newest (any-moment g.D.Device.state g.D.Device.honest g.J.JournalName.name _ c.in-Ok.ensures.reads)
 
 -- the block was revoked
 pub returns-in-Revoked-clause-reads : goal.returns-in-Revoked-clause-reads

@@ -18,7 +18,7 @@ loop-done-preserved g c =
       kept = search rules;
       taken = λ first. c.write_once.ensures.taken (c.loop-done.invariant.taken first);
       begins = λ more cut. absurd (omega (arith, cut, ends more));
-      pieces = more_bytes g.D.Device.state g.D.Device.honest _ _ _ _ c.loop-done.done c.min-count.result c.args.bytes.now _ c.in_ok-_ticket._ticket
+      pieces = more_bytes g.D.Device.state g.D.Device.honest g.J.JournalName.name _ _ _ _ c.loop-done.done c.min-count.result c.args.bytes.now _ c.in_ok-_ticket._ticket
           c.write_once.ensures.kept (search rules) c.loop-done.invariant.pieces c.in_ok-_ticket.ensures.once (search rules) c.in_ok-_ticket.ensures.noted;
     }
 

@@ -17,7 +17,7 @@ loop-done-preserved g c =
       kept = search rules;
       taken = λ first. c.zero_once.ensures.taken (c.loop-done.invariant.taken first);
       begins = λ more cut. absurd (omega (arith, cut, ends more));
-      pieces = more_zeros g.D.Device.state g.D.Device.honest _ _ _ _ c.loop-done.done c.min-some.result c.zero_once.ensures.kept c.loop-done.invariant.pieces
+      pieces = more_zeros g.D.Device.state g.D.Device.honest g.J.JournalName.name _ _ _ _ c.loop-done.done c.min-some.result c.zero_once.ensures.kept c.loop-done.invariant.pieces
           c.in_ok-zero_once.ensures.once;
     }
 
