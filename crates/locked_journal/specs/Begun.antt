@@ -1,6 +1,6 @@
 -- Where a journal's states come from: the journal as its name has it, from before it was shared, and the machine's moves since.
 -- Source: the GoJournal paper (a history of atomic operations over a disk that may crash at any step).
-use Rattle.std.specs.Prelude.{◌≡◌, ℕ, List, [], Some, None}
+use Rattle.std.specs.Prelude.{◌≡◌, ℕ, false, List, [], Some, None}
 use Rattle.journal_model.specs.Disk.{Disk}
 use Rattle.journal_model.specs.Transaction.{History}
 use Rattle.block_device.specs.State.{DeviceState}
@@ -30,11 +30,12 @@ world_since name directs j disk phase = record {
 abbrev pub world_begun : JournalId → JournalWorld
 world_begun name = world_since name [] name.begun name.disk Running
 
--- Moves of the machine lead from its beginning to this journal on this disk.
+-- Moves of the machine lead from its beginning to this journal on this disk. Without the right to it nothing was written directly.
 pub record IsReached (name : JournalId) (j : Journal) (disk : Disk) (phase : Phase) : Type 0 where
   pub moves : List Move
   pub directs : List (ℕ × List ℕ)
   pub leads : Leads (world_begun name) moves (world_since name directs j disk phase)
+  pub none : name.direct ≡ false → directs ≡ []
 
 -- If device reads so far were correct, this running journal is so reached.
 pub record ComesFrom {D : Type 0} (state : D → DeviceState) (honest : D → Type 0) (name : JournalId) (v : JournalValue D) : Type 0 where

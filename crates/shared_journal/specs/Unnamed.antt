@@ -1,5 +1,5 @@
 -- An unnamed journal: its state, the name that it will get, and the log that it is created on.
-use Rattle.std.specs.Prelude.{◌≡◌, ◌<◌}
+use Rattle.std.specs.Prelude.{◌≡◌, ◌<◌, Bool}
 use Rattle.atomic_table.specs.Seated.{TableId}
 use Rattle.journal_model.specs.declared.refusal.JournalError.{JournalError}
 use Rattle.journal_model.specs.declared.refusal.JournalError.TheVariants.{Memory}
@@ -22,8 +22,8 @@ pub record UnnamedValue (D : Type 0) : Type 0 where
   pub name : JournalId
   pub journal : JournalValue D
 
-abbrev pub unnamed_value : {D : Type 0} → (D → DeviceState) → BoardValue → TableId → SidesValue D → UnnamedValue D
-unnamed_value state unnamed parts s = record {
+abbrev pub unnamed_value : {D : Type 0} → (D → DeviceState) → BoardValue → TableId → (direct : Bool) → SidesValue D → UnnamedValue D
+unnamed_value state unnamed parts direct s = record {
   name = record {
     board = unnamed.board;
     parts = parts;
@@ -32,6 +32,7 @@ unnamed_value state unnamed parts s = record {
     shape = (state s.journal.device).shape;
     begun = s.journal.journal;
     disk = (state s.journal.device).disk;
+    direct = direct;
   };
   journal = s.journal;
 }
