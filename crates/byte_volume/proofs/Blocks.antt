@@ -3,9 +3,9 @@ use Rattle.std.proofs.Common.{◌≡◌, sym, subst, ℕ, List, length, replicat
 use Rattle.journal_model.specs.declared.refusal.JournalError.{JournalError}
 use Rattle.journal_model.specs.declared.refusal.JournalError.TheVariants.{Revoked}
 use Rattle.block_device.specs.State.{DeviceState}
+use Rattle.handle.specs.Name.{JournalId}
 use Rattle.journal_steps.specs.Journal.{NewestRefused}
 use Rattle.journal_steps.specs.Values.{JournalValue}
-use Rattle.handle.specs.Name.{JournalId}
 use Rattle.shared_journal.specs.Moments.{AtItsMoment}
 use Rattle.volume_service.specs.Session.{RefusedBytes}
 use Rattle.volume_service.specs.Session.RefusedBytes.{ByJournal, NoBlockOfBytes}

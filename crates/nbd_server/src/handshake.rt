@@ -1,4 +1,8 @@
 //! The handshake before the first request.
+ghost use Rattle.std.specs.Prelude.{◌≡◌, ◌<◌, true, length, IfOk, OnOk};
+ghost use Rattle.std.specs.Io.KnownBytes.{Consumes};
+ghost use Rattle.nbd_server.specs.Input.{TakesSome};
+
 use crate::export::Volume;
 use byteorder::{BigEndian, ByteOrder};
 use nbd_protocol::numbers::{
@@ -34,10 +38,10 @@ enum Next {
 /// # Errors
 ///
 /// `UnexpectedEof`: the input ends within it.
-pub(crate) fn begin<I: Read>(input: &mut I, into: &mut [u8]) -> io::Result<bool> {
-    if into.is_empty() {
-        return Ok(true);
-    }
+pub(crate) fn begin<I: Read>(input: &mut I, into: &mut [u8]) -> io::Result<bool>
+    requires { 0 < length into.old }
+    ensures { IfOk result (λ all. all ≡ true → Consumes (I.remaining input.old) (I.remaining input.new) into.new) }
+{
     let (first, rest) = into.split_at_mut(1);
     match input.read_exact(first) {
         Ok(()) => {}
@@ -54,13 +58,17 @@ pub(crate) fn begin<I: Read>(input: &mut I, into: &mut [u8]) -> io::Result<bool>
 }
 
 /// Skips bytes.
-pub(crate) fn skip<I: Read>(input: &mut I, bytes: u32) -> io::Result<()> {
+pub(crate) fn skip<I: Read>(input: &mut I, bytes: u32) -> io::Result<()>
+    ensures { OnOk result (TakesSome bytes (Consumes (I.remaining input.old) (I.remaining input.new))) }
+{
     let mut room = [0; STEP];
-    for _ in 0..bytes as usize / STEP {
-        input.read_exact(&mut room)?;
+    let mut left = bytes as usize;
+    while left > 0 {
+        let some = left.min(STEP);
+        input.read_exact(&mut room[..some])?;
+        left -= some;
     }
-    let rest = bytes as usize % STEP;
-    input.read_exact(&mut room[..rest])
+    Ok(())
 }
 
 /// Greets a client and answers its options; true if requests follow.
