@@ -1,4 +1,4 @@
-use Rattle.locked_journal.proofs.locking.Locked.last_joined.Goals as goal
+use Rattle.locked_journal.proofs.locked.Locked.last_joined.Goals as goal
 
 pub returns-clause-comes : goal.returns-clause-comes
 returns-clause-comes g c = rw (← c.self.view_is) c.self.invariant.2
