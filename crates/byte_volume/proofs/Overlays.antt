@@ -8,7 +8,7 @@ use Rattle.locked_journal.specs.Known.{TicketKnown}
 use Rattle.byte_volume.specs.Writing.{AddsTicket, BeginsRange, IsOverlay, MayAddTicket, WritesFirst, WritesRange, write_steps}
 use Rattle.byte_volume.specs.Writing.IsHead.{NoHead}
 use Rattle.byte_volume.specs.Writing.IsTail.{NoTail}
-use Rattle.byte_volume.proofs.Tickets.{may_weaker}
+use Rattle.byte_volume.proofs.TicketLists.{may_weaker}
 
 -- bytes that begin and end at block boundaries
 pub aligned : {D : Type 0} (state : D → DeviceState) (honest : D → Type 0) (name : JournalId) (size offset : ℕ) (bytes : List ℕ) → offset % size ≡ 0 → (offset + length bytes) % size ≡ 0 →

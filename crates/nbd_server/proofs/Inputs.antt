@@ -3,7 +3,8 @@ use Rattle.std.proofs.Common.{◌≡◌, ◌≢◌, ◌+◌, ◌-◌, ◌≤◌,
 use Rattle.std.specs.Io.KnownBytes.{Consumes}
 use Rattle.std.proofs.KnownBytes.{Consumes-nil, Consumes-trans}
 use Rattle.nbd_protocol.specs.declared.request.Request.{Request}
-use Rattle.nbd_server.specs.Input.{TakesPayload, TakesSome}
+use Rattle.nbd_server.specs.Input.{TakesHandshake, TakesOption, TakesOptions, TakesPayload, TakesSome}
+use Rattle.nbd_server.specs.Input.AreOptions.{Further, NoOption}
 
 -- none yet
 pub none_taken : (at : Option (List ℕ)) (n : ℕ) → 0 ≡ n → TakesSome n (Consumes at at)
@@ -40,3 +41,24 @@ skipped r came (Err e) is taken = tt
 -- there were none
 pub no_payload : (r : Request) (at : Option (List ℕ)) (bytes : List ℕ) → r.command ≢ 1 → bytes ≡ [] → TakesPayload r (Consumes at at) bytes
 no_payload r at bytes other none = record { long = λ is. absurd (other is); none = λ _. none; next = subst (Consumes at at) (sym none) (Consumes-nil at) }
+
+-- no option yet
+pub no_option : (at : Option (List ℕ)) → TakesOptions (Consumes at at)
+no_option at = record { bytes = []; whole = NoOption; next = Consumes-nil at }
+
+-- one more
+pub one_more_option : (first mid last : Option (List ℕ)) (option : ℕ) (its : List ℕ → Type 0) → TakesOptions (Consumes first mid) → TakesOption (Consumes mid last) option its →
+    TakesOptions (Consumes first last)
+one_more_option first mid last option its before taken = record {
+  bytes = before.bytes ++ (taken.head ++ taken.data_bytes);
+  whole = Further before.bytes taken.head taken.data_bytes (before.bytes ++ (taken.head ++ taken.data_bytes)) taken.header before.whole taken.long taken.is taken.data_long refl;
+  next = Consumes-trans first mid last before.bytes (taken.head ++ taken.data_bytes) before.next taken.next;
+}
+
+-- the flags, and then options
+pub flags_and_options : {E : Type 0} (first mid last : Option (List ℕ)) (flags : List ℕ) (result : Result Bool E) → length flags ≡ 4 → Consumes first mid flags →
+    IfOk result (λ follow. follow ≡ true → TakesOptions (Consumes mid last)) → IfOk result (λ follow. follow ≡ true → TakesHandshake (Consumes first last))
+flags_and_options first mid last flags (Ok follow) four came taken = λ yes.
+    let options = taken yes in
+    record { flags = flags; options = options.bytes; four = four; whole = options.whole; next = Consumes-trans first mid last flags options.bytes came options.next }
+flags_and_options first mid last flags (Err e) four came taken = tt

@@ -3,7 +3,7 @@ use Rattle.std.proofs.lemmas.Result.{err_from_is_err_and}
 use Rattle.locked_journal.specs.Known.{HandleKnown}
 use Rattle.byte_volume.proofs.Refusals.{credits_left}
 use Rattle.byte_volume.proofs.Revokes.{one_more, same_number, same_tid}
-use Rattle.byte_volume.proofs.Tickets.{any_err}
+use Rattle.byte_volume.proofs.TicketLists.{any_err}
 use Rattle.byte_volume.proofs.trimming.revoke_all.Goals as goal
 
 -- one more block is revoked

@@ -2,7 +2,7 @@ use Rattle.std.proofs.Common.{arith}
 use Rattle.std.proofs.lemmas.Result.{IfErr-weaker}
 use Rattle.byte_volume.specs.Refusals.RevokeRefused.{AtStep}
 use Rattle.byte_volume.specs.Writing.MayAddTicket.{NoTicket}
-use Rattle.byte_volume.proofs.Tickets.{any_err, leaves, revoked_blocks, revoked_first}
+use Rattle.byte_volume.proofs.TicketLists.{any_err, leaves, revoked_blocks, revoked_first}
 use Rattle.byte_volume.proofs.trimming.revoke_once.Goals as goal
 
 -- there is no memory for a ticket

@@ -3,7 +3,7 @@ use Rattle.std.proofs.lemmas.Result.{err_from_is_err_and}
 use Rattle.byte_volume.specs.Writing.{RevokesBlocks}
 use Rattle.byte_volume.proofs.Refusals.{some_blocks}
 use Rattle.byte_volume.proofs.Revokes.{more_blocks, no_block, some_blocks_of}
-use Rattle.byte_volume.proofs.Tickets.{any_err, none_noted, noted_added, noted_maybe}
+use Rattle.byte_volume.proofs.TicketLists.{any_err, none_noted, noted_added, noted_maybe}
 use Rattle.byte_volume.proofs.trimming.revoke_pieces.Goals as goal
 
 -- nothing is revoked

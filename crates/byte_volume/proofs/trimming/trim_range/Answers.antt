@@ -1,7 +1,12 @@
 use Rattle.std.proofs.Common.{◌∙◌, ◌-◌, ◌/◌, ap, ap₂, ℕ}
 use Rattle.std.specs.Int.{div_ceil}
 use Rattle.byte_volume.proofs.Refusals.{trim_refused}
+use Rattle.byte_volume.proofs.Revokes.{none_of}
 use Rattle.byte_volume.proofs.trimming.trim_range.Goals as goal
+
+-- the range ends past 2^64
+pub returns-in_default-clause-left : goal.returns-in_default-clause-left
+returns-in_default-clause-left g c = none_of _ _ c.clear.new.self.items c.clear.ensures.items
 
 -- a handle was refused
 pub returns-clause-err : goal.returns-clause-err

@@ -4,7 +4,7 @@ use Rattle.std.proofs.lemmas.Result.{err_from_is_err_and}
 use Rattle.locked_journal.specs.Known.{HandleKnown}
 use Rattle.byte_volume.proofs.Blocks.{by_journal}
 use Rattle.byte_volume.proofs.Refusals.{credits_left}
-use Rattle.byte_volume.proofs.Tickets.{any_err}
+use Rattle.byte_volume.proofs.TicketLists.{any_err}
 use Rattle.byte_volume.proofs.WholeBlocks.{length-block}
 use Rattle.byte_volume.proofs.writing.fill.Goals as goal
 

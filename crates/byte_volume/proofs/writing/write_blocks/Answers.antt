@@ -3,7 +3,7 @@ use Rattle.std.proofs.lemmas.Result.{IfErr-weaker, err_from_is_err_and}
 use Rattle.byte_volume.specs.Refusals.{IsAmong, StepRefused}
 use Rattle.byte_volume.specs.Refusals.HandleRefused.{NotStarted, OfStep}
 use Rattle.byte_volume.specs.Writing.MayAddTicket.{NoTicket}
-use Rattle.byte_volume.proofs.Tickets.{any_err, leaves, wrote_blocks, wrote_first}
+use Rattle.byte_volume.proofs.TicketLists.{any_err, leaves, wrote_blocks, wrote_first}
 use Rattle.byte_volume.proofs.writing.write_blocks.Goals as goal
 
 -- there is no memory for a ticket
@@ -39,5 +39,5 @@ returns-clause-left g c =
 pub returns-clause-err : goal.returns-clause-err
 returns-clause-err g c =
     IfErr-weaker c.fill-filled.result _ _
-    (λ e why. OfStep (subst (λ (k : ℕ). StepRefused g.D.Denot (IsAmong c.args.first (length c.args.bytes.now / k)) e) c.block_size-size.ensures.size why))
+    (λ e why. OfStep (subst (λ (k : ℕ). StepRefused g.row.D.Denot (IsAmong c.args.first (length c.args.bytes.now / k)) e) c.block_size-size.ensures.size why))
     c.fill-filled.ensures.err

@@ -2,7 +2,7 @@ use Rattle.std.proofs.Common.{◌<◌, arith, refl, length}
 use Rattle.byte_volume.specs.Writing.MayAddTicket.{NoTicket}
 use Rattle.byte_volume.proofs.Overlays.{aligned_by, wrote_begin, wrote_whole}
 use Rattle.byte_volume.proofs.Refusals.{write_refused}
-use Rattle.byte_volume.proofs.Tickets.{any_err}
+use Rattle.byte_volume.proofs.TicketLists.{any_err}
 use Rattle.byte_volume.proofs.WholeBlocks.{length-aligned, length-overlay, past_fits, within_credits}
 use Rattle.byte_volume.proofs.writing.write_once.Goals as goal
 

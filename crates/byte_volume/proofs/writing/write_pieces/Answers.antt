@@ -3,7 +3,7 @@ use Rattle.std.proofs.lemmas.Grind.{common_steps}
 use Rattle.std.proofs.lemmas.Result.{err_from_is_err_and}
 use Rattle.byte_volume.proofs.Pieces.{all_bytes, more_bytes, no_byte, some_bytes}
 use Rattle.byte_volume.proofs.Refusals.{piece_refused}
-use Rattle.byte_volume.proofs.Tickets.{any_err, none_noted, noted_added, noted_maybe}
+use Rattle.byte_volume.proofs.TicketLists.{any_err, none_noted, noted_added, noted_maybe}
 use Rattle.byte_volume.proofs.WholeBlocks.{piece_ends, piece_within}
 use Rattle.byte_volume.proofs.writing.write_pieces.Goals as goal
 

@@ -1,5 +1,5 @@
 use Rattle.byte_volume.proofs.Pieces.{not_within, nothing, one_piece, part_of_one}
-use Rattle.byte_volume.proofs.Tickets.{none_noted, noted_either}
+use Rattle.byte_volume.proofs.TicketLists.{none_noted, noted_either}
 use Rattle.byte_volume.proofs.writing.write_range.Goals as goal
 
 -- the range ends past 2^64

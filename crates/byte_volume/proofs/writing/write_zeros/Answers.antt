@@ -1,6 +1,6 @@
 use Rattle.std.proofs.Common.{replicate}
 use Rattle.byte_volume.proofs.Pieces.{nothing, one_piece, part_of_one, zeros_not_within}
-use Rattle.byte_volume.proofs.Tickets.{none_noted, noted_either}
+use Rattle.byte_volume.proofs.TicketLists.{none_noted, noted_either}
 use Rattle.byte_volume.proofs.writing.write_zeros.Goals as goal
 
 -- the range ends past 2^64

@@ -34,9 +34,9 @@ perform-requires-clause-long g c is =
 pub returns-then-taken-clause-answered : goal.returns-then-taken-clause-answered
 returns-then-taken-clause-answered g c =
     let took = c.in_ok-taken.ensures.took c.if-taken.true in
-    Taken c.take-taken.new.self
+    Taken c.take.new.self
     (subst₂ (λ (n : ℕ) (r : Request). IsTaken n c.args.export.now.read_only r) c.volume_bytes-bytes.ensures c.request.ensures c.in_default.ensures.takes)
-    (subst (λ (r : Request). TakesPayload r (Consumes (g.I.Read.remaining c.args.input.now) (g.I.Read.remaining c.take-taken.new.input)) c.take-taken.new.self) c.request.ensures took)
+    (subst (λ (r : Request). TakesPayload r (Consumes (g.I.Read.remaining c.args.input.now) (g.I.Read.remaining c.take.new.input)) c.take.new.self) c.request.ensures took)
     c.perform-answer.ensures.performed
 
 -- there is no memory for them
