@@ -2,7 +2,7 @@
 //!
 //! Contracts name a script's text by the bytes that came, and by the path that they came from. No proof sees what a call on a file does, so
 //! read `open_text` and `Text::read`: one that opened another file, or kept other bytes, would prove as well.
-ghost use Rattle.std.specs.Prelude.{◌≡◌, [], IfOk, OnErr, OnOk, string_bytes};
+ghost use Rattle.std.specs.Prelude.{◌≡◌, [], IfOk, IfSome, OnErr, OnOk, string_bytes};
 ghost use Rattle.jbench_files.specs.Apart.{AreApart};
 
 use crate::regular::{RegularFile, given_twice, open_input};
@@ -84,6 +84,18 @@ impl Text {
         &self.bytes
     }
 
+    /// All that a reader gives, as it came from this path.
+    fn of<R: Read + Drop>(alloc: Global, path: &str, reader: R) -> Result<Text, Fault>
+        ensures path { IfOk result (λ text. string_bytes text.path ≡ path.now) }
+        ensures bytes { IfOk result (λ text. IfSome (R.remaining reader) (λ bytes. text.bytes.items ≡ bytes)) }
+    {
+        let bytes = read_text(alloc, reader)?;
+        match String::from_str(alloc, path) {
+            Ok(path) => Ok(Text { path, bytes }),
+            Err(e) => Err(Fault::of_file(io::Error::from(e))),
+        }
+    }
+
     /// Takes all that a script's file gives, and its path.
     ///
     /// # Errors
@@ -94,12 +106,7 @@ impl Text {
         ensures kept { OnErr result (self.new ≡ self.old) }
     {
         let TextFile { path, file } = script;
-        let path = match String::from_str(alloc, path) {
-            Ok(path) => path,
-            Err(e) => return Err(Fault::of_file(io::Error::from(e))),
-        };
-        let bytes = read_text(alloc, Limited::new(file.into_file()))?;
-        *self = Text { path, bytes };
+        *self = Text::of(alloc, path, Limited::new(file.into_file()))?;
         Ok(())
     }
 
