@@ -1,5 +1,5 @@
 -- The result of running the clients of a script in threads.
-use Rattle.std.specs.Prelude.{◌≡◌, ⊤, ℕ, Bool, true, false, List, [], Option, Some, None, All, IfSome, Vec}
+use Rattle.std.specs.Prelude.{◌≡◌, ⊤, ℕ, Bool, true, false, List, [], Option, Some, None, All, Vec}
 use Rattle.std.specs.BTreeSet.{keys}
 use Rattle.std.specs.Global.{Global}
 use Rattle.std.specs.List.{AllZip}
@@ -92,19 +92,13 @@ pub record HasRunWrong (script : ClientScript) : Type 0 where
   pub run : IsRunOf script v
   pub wrong : ¬ AreAllTrue v
 
--- The script is that of all bytes that the reader had, if these are known.
-pub record IsOfText (known : Option (List ℕ)) (script : ClientScript) : Type 0 where
-  pub text : List ℕ
-  pub whole : IfSome known (λ bytes. text ≡ bytes)
-  pub is : IsClientScriptOf text script
-
--- Such a script was run, and all verdicts are true; or one is false.
-pub record HasServed (known : Option (List ℕ)) : Type 0 where
+-- The text's script was run, and all verdicts are true; or one is false.
+pub record HasServed (text : List ℕ) : Type 0 where
   pub script : ClientScript
-  pub of_text : IsOfText known script
+  pub of_text : IsClientScriptOf text script
   pub run : HasRunRight script
 
-pub record HasFoundFalse (known : Option (List ℕ)) : Type 0 where
+pub record HasFoundFalse (text : List ℕ) : Type 0 where
   pub script : ClientScript
-  pub of_text : IsOfText known script
+  pub of_text : IsClientScriptOf text script
   pub run : HasRunWrong script
