@@ -1,5 +1,5 @@
 -- Pieces of a byte range, written in order.
-use Rattle.std.proofs.Common.{◌≡◌, ◌≤◌, ◌<◌, ◌+◌, ◌-◌, ◌++◌, ◌∙◌, ap, sym, refl, subst, arith, ℕ, List, [], ◌∷◌, OnErr, OnOk, Result, Ok, Err, length, take, drop, replicate, append_assoc, append-nil, length-take-le, take-add, take_all, take-append-drop}
+use Rattle.std.proofs.Common.{◌≡◌, ◌≤◌, ◌+◌, ◌-◌, ◌++◌, ◌∙◌, ap, sym, refl, subst, arith, ℕ, List, [], ◌∷◌, OnErr, OnOk, Result, Ok, Err, length, take, drop, replicate, append_assoc, append-nil, length-take-le, take-add, take_all, take-append-drop}
 use Rattle.std.proofs.lemmas.List.{length-replicate, replicate-append-replicate}
 use Rattle.block_device.specs.State.{DeviceState}
 use Rattle.handle.specs.Name.{JournalId}

@@ -1,5 +1,5 @@
 -- Revoke steps, one more at a time.
-use Rattle.std.proofs.Common.{arith, subst, suc, zero, ◌≡◌, ◌≤◌, ◌+◌, ◌++◌, ◌∙◌, ap, sym, refl, ℕ, List, [], ◌∷◌}
+use Rattle.std.proofs.Common.{arith, subst, suc, ◌≡◌, ◌≤◌, ◌+◌, ◌++◌, ◌∙◌, ap, sym, refl, ℕ, List, [], ◌∷◌}
 use Rattle.std.proofs.lemmas.List.{append_assoc}
 use Rattle.journal_model.specs.declared.transaction.Step.{Step}
 use Rattle.journal_front.specs.Values.{HandleValue}

@@ -1,5 +1,7 @@
--- A request that is not taken.
-use Rattle.std.proofs.Common.{◌≡◌, ◌≢◌, ℕ, List, [], Bool, Err, IfOk, Ok, OnOk, Result}
+-- A request that is not taken, and a read that fails.
+use Rattle.std.proofs.Common.{◌≡◌, ◌≢◌, subst, ℕ, List, [], Bool, Err, IfOk, Ok, OnOk, Result}
+use Rattle.journal_model.specs.declared.refusal.JournalError.{JournalError}
+use Rattle.byte_volume.specs.Reading.{RangeRefused}
 use Rattle.block_device.specs.State.{DeviceState}
 use Rattle.journal_model.specs.Disk.{Shape}
 use Rattle.handle.specs.Name.{JournalId}
@@ -10,7 +12,8 @@ use Rattle.nbd_server.specs.declared.replies.Answer.{Answer}
 use Rattle.nbd_server.specs.declared.replies.Answer.TheVariants.{Now}
 use Rattle.nbd_server.specs.Answers.{IsAnswered, volume_size}
 use Rattle.nbd_server.specs.Answers.IsAnswered.{Refused}
-use Rattle.nbd_server.specs.Causes.{NotTaken}
+use Rattle.nbd_server.specs.Causes.{NotTaken, ReadFails}
+use Rattle.nbd_server.specs.Causes.ReadFails.{OfRange}
 use Rattle.nbd_server.specs.Input.{TakesPayload}
 
 pub not_taken : {D I E : Type 0} (state : D → DeviceState) (honest : D → Type 0) (name : JournalId) (shape : Shape) (capacity nameable : ℕ) (read_only : Bool) (r : Request) (upto : ℕ)
@@ -21,3 +24,7 @@ pub not_taken : {D I E : Type 0} (state : D → DeviceState) (honest : D → Typ
 not_taken state honest name shape capacity nameable read_only r upto tickets left came e (Ok a) some why leaves none is skipped =
     Refused e skipped.0 some why skipped.1 leaves none is
 not_taken state honest name shape capacity nameable read_only r upto tickets left came e (Err x) some why leaves none is skipped = tt
+
+-- n is another name of its length
+pub read_fails : {D : Type 0} (state : D → DeviceState) (r : Request) (n : ℕ) (e : JournalError) → n ≡ r.length → RangeRefused state r.offset n e → ReadFails state r e
+read_fails state r n e same why = OfRange (subst (λ (k : ℕ). RangeRefused state r.offset k e) same why)

@@ -160,7 +160,8 @@ pub fn change<J: JournalName, D: Device, R: Record, I, W: Wait>(
         return write_zeros(rt, alloc, session, offset, count, stopped, tickets);
     }
     if request.command == TRIM {
-        return trim_range(rt, session, offset, u64::from(length), stopped, tickets);
+        let count = length as u64;
+        return trim_range(rt, session, offset, count, stopped, tickets);
     }
     tickets.clear();
     Ok(())

@@ -26,8 +26,8 @@ pub returns-in_err-taken-clause-noted : goal.returns-in_err-taken-clause-noted
 returns-in_err-taken-clause-noted g c = subst (AreNoted c.args.stopped.now) (sym c.clear.ensures) tt
 
 -- its bytes came
-pub perform-requires-clause-long : goal.perform-requires-clause-long
-perform-requires-clause-long g c is =
+pub perform-answer-requires-clause-long : goal.perform-answer-requires-clause-long
+perform-answer-requires-clause-long g c is =
     let took = c.in_ok-taken.ensures.took c.if-taken.true in
     took.long (ap (λ (r : Request). r.command) c.request.ensures ∙ is) ∙ ap (λ (r : Request). r.length) c.request.ensures
 

@@ -29,8 +29,9 @@ returns-in-Err-clause-noted g c = subst (AreNoted c.args.stopped.now) (sym c.req
 
 -- a write has as many bytes as it says
 pub change-requires : goal.change-requires
-change-requires g c is =
-    c.requires.long (ap (λ (r : Request). r.command) (sym c.request.ensures) ∙ is) ∙ ap (λ (r : Request). r.length) (sym c.request.ensures)
+change-requires g c = record {
+  long = λ is. c.requires.long (ap (λ (r : Request). r.command) (sym c.request.ensures) ∙ is) ∙ ap (λ (r : Request). r.length) (sym c.request.ensures);
+}
 
 -- it is done, and wants a commit
 pub of-requires-clause-done : goal.of-requires-clause-done
