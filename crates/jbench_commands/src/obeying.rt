@@ -15,8 +15,8 @@ use crate::progress::Progress;
 use crate::{apply, check, run, sweep};
 use file_device::{Contents, FileDevice};
 use jbench_files::{
-    Cleared, KeptPair, LogCleared, LogPair, Text, TextFile, Unmade, Unopened, device_before, device_of,
-    device_to_read, home_bytes, make_device, make_log, make_log_device, make_pair,
+    Cleared, KeptPair, LogCleared, LogPair, Text, TextFile, Unmade, Unopened, device_before,
+    device_of, device_to_read, home_bytes, make_device, make_log, make_log_device, make_pair,
     open_log, open_log_to_write, open_or_make_log, open_or_make_pair, open_pair_to_read_within,
     open_pair_within, open_script, open_text, say_failure,
 };

@@ -1,4 +1,4 @@
-use Rattle.std.proofs.Common.{◌∙◌, List, ℕ, subst}
+use Rattle.std.proofs.Common.{◌∙◌, subst}
 use Rattle.std.proofs.lemmas.Result.{IfOk-weaker}
 use Rattle.jbench_commands.specs.Obeying.{IsAppliedOver}
 use Rattle.jbench_commands.proofs.obeying.apply_files.Goals as goal
