@@ -1,5 +1,5 @@
 -- An unnamed journal: its state, the name that it will get, and the log that it is created on.
-use Rattle.std.specs.Prelude.{◌≡◌, ◌<◌}
+use Rattle.std.specs.Prelude.{◌≡◌, ◌<◌, Bool}
 use Rattle.atomic_table.specs.Seated.{TableId}
 use Rattle.journal_model.specs.declared.refusal.JournalError.{JournalError}
 use Rattle.journal_model.specs.declared.refusal.JournalError.TheVariants.{Memory}
@@ -11,6 +11,7 @@ use Rattle.recovery.specs.Opening.{IsDone, OpeningRefused}
 use Rattle.recovery.specs.Values.{OpenedValue}
 use Rattle.handle.specs.Name.{JournalId}
 use Rattle.handle.specs.Values.{BoardValue}
+use Rattle.locked_journal.specs.Begun.{world_begun}
 use Rattle.locked_journal.specs.Locked.{IsHeld}
 use Rattle.journal_sides.specs.Sides.{SidesValue}
 use Rattle.journal_steps.specs.Values.{JournalValue}
@@ -21,17 +22,24 @@ pub record UnnamedValue (D : Type 0) : Type 0 where
   pub name : JournalId
   pub journal : JournalValue D
 
-abbrev pub unnamed_value : {D : Type 0} → (D → DeviceState) → BoardValue → TableId → SidesValue D → UnnamedValue D
-unnamed_value state unnamed parts s = record {
+abbrev pub unnamed_value : {D : Type 0} → (D → DeviceState) → BoardValue → TableId → (direct : Bool) → SidesValue D → UnnamedValue D
+unnamed_value state unnamed parts direct s = record {
   name = record {
     board = unnamed.board;
     parts = parts;
     reconciler = s.reconciler;
     capacity = unnamed.capacity;
     shape = (state s.journal.device).shape;
+    begun = s.journal.journal;
+    disk = (state s.journal.device).disk;
+    direct = direct;
   };
   journal = s.journal;
 }
+
+-- The beginning that the name has is this journal's.
+abbrev pub IsBegun : {D : Type 0} → (D → DeviceState) → UnnamedValue D → Type 0
+IsBegun state unnamed = world_begun unnamed.name ≡ world_of_new state unnamed.journal.device unnamed.journal
 
 -- No credit is held, and the mark is the first one; the journal has credits, and a block has bytes.
 pub record IsUnnamed {D : Type 0} (state : D → DeviceState) (unnamed : BoardValue) (j : JournalValue D) : Type 0 where

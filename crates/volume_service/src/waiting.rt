@@ -2,7 +2,7 @@
 ghost use Rattle.std.specs.Prelude.{◌≡◌, ◌≤◌, IfErr, IfOk, OnOk};
 ghost use Rattle.journal_model.specs.declared.refusal.JournalError.TheVariants.{Memory as OutOfMemory};
 ghost use Rattle.locked_journal.specs.Known.{LooksOn, LooksSoFar};
-ghost use Rattle.shared_journal.specs.Moments.{WasLastJoinedThen};
+ghost use Rattle.shared_journal.specs.Moments.{WasLastJoinedHere};
 ghost use Rattle.volume_service.specs.Session.{NotAwaited};
 
 use block_device::Device;
@@ -80,7 +80,7 @@ impl<'s, J: JournalName, D: Device, R: Record, G> Waiter<'s, J, D, R, G> {
 
     /// `Session::last_joined`.
     pub(crate) fn last_joined<W: Wait>(&self, rt: &W) -> Tid
-        ensures { WasLastJoinedThen D result }
+        ensures { WasLastJoinedHere D.state D.honest J.name result }
     {
         self.shared.turns.last_joined(rt)
     }
@@ -160,7 +160,7 @@ impl<'s, J: JournalName, D: Device, R: Record, G> Waiter<'s, J, D, R, G> {
         seat: &mut Seat<J>,
         last_stopped: Tid,
     ) -> Result<Tid, JournalError>
-        ensures all { IfOk result (WasLastJoinedThen D) }
+        ensures all { IfOk result (WasLastJoinedHere D.state D.honest J.name) }
         ensures committed { IfOk result (λ tid. tid ≤ seat.new.seen) }
         ensures own { OnOk result (last_stopped ≤ seat.new.seen) }
         ensures no_less { seat.old.seen ≤ seat.new.seen }
