@@ -35,16 +35,6 @@ use Rattle.journal_sides.specs.Sides.{HeldReadDid, Reconciles, ReconcilesAnd, en
 use Rattle.journal_sides.proofs.Moving.{reconciler-moves}
 use Rattle.locked_journal.specs.Begun.{ComesFrom, IsReached, epoch_since, world_begun, world_since}
 
--- The beginning is reached by no move.
-begun-reached : (name : JournalId) (j : Journal) (disk : Disk) → name.begun ≡ j → name.disk ≡ disk → IsReached name j disk Running
-begun-reached name j disk same still =
-    subst (λ (x : Journal). IsReached name x disk Running) same
-    (subst (λ (d : Disk). IsReached name name.begun d Running) still (record { moves = []; directs = []; leads = refl; none = λ without. refl }))
-
-pub comes-begun : {D : Type 0} (state : D → DeviceState) (honest : D → Type 0) (name : JournalId) (v : JournalValue D) → name.begun ≡ v.journal → name.disk ≡ (state v.device).disk →
-    ComesFrom state honest name v
-comes-begun state honest name v same still = record { reached = λ h. begun-reached name v.journal (state v.device).disk same still }
-
 -- Without the right to write directly, the step is no direct write.
 abbrev IsPermitted : JournalId → Event → Type 0
 IsPermitted name event = name.direct ≡ false → (directs : List (ℕ × List ℕ)) → with_directs event directs ≡ directs
@@ -59,24 +49,33 @@ module _ (name : JournalId) (old : Journal) (disk : Disk) (new : Journal) (after
   -- Further moves that write nothing directly.
   pub reached-comes : (phase : Phase) → IsReached name old disk Running → ComesTo old disk new after phase → IsReached name new after phase
   reached-comes phase was comes = record {
+    opening = was.opening;
+    log = was.log;
+    home = was.home;
+    begins = was.begins;
     moves = was.moves ++ comes.moves;
     directs = was.directs;
     leads =
-        leads-after (world_begun name) (world_since name was.directs old disk Running) (world_since name was.directs new after phase) was.moves comes.moves was.leads
-        (comes.leads (world_since name was.directs old disk Running) (epoch_since name was.directs old.engine));
+        leads-after (world_begun name was.opening) (world_since name was.opening was.directs old disk Running)
+        (world_since name was.opening was.directs new after phase) was.moves comes.moves was.leads
+        (comes.leads (world_since name was.opening was.directs old disk Running) (epoch_since was.opening was.directs old.engine));
     none = was.none;
   }
 
   -- One step of the journal.
   reached-step : (event : Event) → IsPermitted name event → IsReached name old disk Running → Happens old disk event new after → IsReached name new after Running
   reached-step event permitted was happens = record {
+    opening = was.opening;
+    log = was.log;
+    home = was.home;
+    begins = was.begins;
     moves = was.moves ++ StepMove event ∷ [];
     directs = with_directs event was.directs;
     leads =
-        leads-more (world_begun name) (world_since name was.directs old disk Running) (world_since name (with_directs event was.directs) new after Running)
-        was.moves (StepMove event) was.leads (record {
+        leads-more (world_begun name was.opening) (world_since name was.opening was.directs old disk Running)
+        (world_since name was.opening (with_directs event was.directs) new after Running) was.moves (StepMove event) was.leads (record {
           running = refl;
-          epoch = epoch_since name was.directs old.engine;
+          epoch = epoch_since was.opening was.directs old.engine;
           now = refl;
           journal = new;
           happens = happens;

@@ -1,7 +1,10 @@
 -- Where a journal's states come from: the journal as its name has it, from before it was shared, and the machine's moves since.
 -- Source: the GoJournal paper (a history of atomic operations over a disk that may crash at any step).
-use Rattle.std.specs.Prelude.{◌≡◌, ℕ, false, List, [], Some, None}
-use Rattle.journal_model.specs.Disk.{Disk}
+use Rattle.std.specs.Prelude.{◌≡◌, ℕ, false, List, [], map, Some, None}
+use Rattle.std.specs.List.{range_with_len}
+use Rattle.journal_model.specs.declared.number.Area.{Area}
+use Rattle.journal_model.specs.declared.number.Area.TheVariants.{Home, Log}
+use Rattle.journal_model.specs.Disk.{Cell, Disk}
 use Rattle.journal_model.specs.Transaction.{History}
 use Rattle.block_device.specs.State.{DeviceState}
 use Rattle.journal_world.specs.Engine.{Engine}
@@ -10,31 +13,40 @@ use Rattle.handle.specs.Name.{JournalId}
 use Rattle.log_epochs.specs.Epoch.{Epoch}
 use Rattle.log_epochs.specs.EngineWorld.{Phase}
 use Rattle.log_epochs.specs.EngineWorld.Phase.{Running}
-use Rattle.log_epochs.specs.JournalWorld.{JournalWorld, Leads, Move}
+use Rattle.log_epochs.specs.JournalWorld.{Begins, JournalWorld, Leads, Move}
 use Rattle.journal_steps.specs.Values.{JournalValue}
 
--- The epoch of a named journal: it began on the disk that the name has. These were written directly since.
-abbrev pub epoch_since : JournalId → (directs : List (ℕ × List ℕ)) → Engine → Epoch
-epoch_since name directs e = record { opening = name.disk; engine = e; directs = directs; pin = None }
+-- The first n blocks of an area.
+abbrev pub cells_of : Disk → Area → ℕ → List Cell
+cells_of disk area n = map (λ k. disk area k) (range_with_len 0 n)
+
+-- An epoch that began on this disk. These were written directly since.
+abbrev pub epoch_since : (opening : Disk) → (directs : List (ℕ × List ℕ)) → Engine → Epoch
+epoch_since opening directs e = record { opening = opening; engine = e; directs = directs; pin = None }
 
 -- The world of a named journal on this disk, in this phase. It does not say what is acknowledged: at each moment that may be any
 -- transaction up to the mark.
-abbrev pub world_since : JournalId → (directs : List (ℕ × List ℕ)) → Journal → Disk → Phase → JournalWorld
-world_since name directs j disk phase = record {
-  below = record { shape = name.shape; disk = disk; phase = phase; epoch = Some (epoch_since name directs j.engine); ended = [] };
+abbrev pub world_since : JournalId → (opening : Disk) → (directs : List (ℕ × List ℕ)) → Journal → Disk → Phase → JournalWorld
+world_since name opening directs j disk phase = record {
+  below = record { shape = name.shape; disk = disk; phase = phase; epoch = Some (epoch_since opening directs j.engine); ended = [] };
   told = record { front = j.front; answered = [] };
   past = [];
 }
 
--- The world in which it began.
-abbrev pub world_begun : JournalId → JournalWorld
-world_begun name = world_since name [] name.begun name.disk Running
+-- The world in which it began, on this disk.
+abbrev pub world_begun : JournalId → (opening : Disk) → JournalWorld
+world_begun name opening = world_since name opening [] name.begun opening Running
 
--- Moves of the machine lead from its beginning to this journal on this disk. Without the right to it nothing was written directly.
+-- Moves of the machine lead from its beginning, a new journal on the blocks that the name has, to this journal on this disk. Without the right
+-- to it nothing was written directly.
 pub record IsReached (name : JournalId) (j : Journal) (disk : Disk) (phase : Phase) : Type 0 where
+  pub opening : Disk
+  pub log : cells_of opening Log name.shape.log_blocks ≡ name.log
+  pub home : cells_of opening Home name.shape.home_blocks ≡ name.home
+  pub begins : Begins (world_begun name opening)
   pub moves : List Move
   pub directs : List (ℕ × List ℕ)
-  pub leads : Leads (world_begun name) moves (world_since name directs j disk phase)
+  pub leads : Leads (world_begun name opening) moves (world_since name opening directs j disk phase)
   pub none : name.direct ≡ false → directs ≡ []
 
 -- If device reads so far were correct, this running journal is so reached.

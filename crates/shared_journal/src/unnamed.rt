@@ -37,13 +37,13 @@ pub struct UnnamedJournal<D: Device, R: Record = Unrecorded> {
 }
 
 impl<D: Device, R: Record> Model for UnnamedJournal<D, R> {
-    ghost use Rattle.shared_journal.specs.Unnamed.{IsUnnamed, UnnamedValue, unnamed_value};
+    ghost use Rattle.shared_journal.specs.Unnamed.{IsUnnamed, MayBegin, UnnamedValue, unnamed_value};
 
     ghost Value = { UnnamedValue D };
 
     ghost view = { λ l. unnamed_value D.state l.board l.knowing l.direct l.sides };
 
-    ghost invariant = { λ l. IsUnnamed D.state l.board l.sides.journal };
+    ghost invariant = { λ l. IsUnnamed D.state l.board l.sides.journal × MayBegin D.state D.honest l.sides.journal };
 }
 
 /// The capacity, in credits, of a journal on this log.
