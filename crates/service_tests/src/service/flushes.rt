@@ -234,8 +234,8 @@ fn run<R: Threads + Wait + Sync>(
         stopped: AtomicU64::new(0),
         flushed: AtomicU64::new(0),
     };
-    let unnamed = unnamed_on(alloc, formatted(alloc, LOG_BLOCKS, 64)?)?;
     let players = players(alloc, parts, &rounds)?;
+    let unnamed = unnamed_on(alloc, formatted(alloc, LOG_BLOCKS, 64)?)?;
     play::<Brand, _>(rt, alloc, unnamed, players, blocks)
 }
 
