@@ -1,5 +1,5 @@
 -- What a call that changes a range does of a request, or leaves of it.
-use Rattle.std.proofs.Common.{◌≡◌, ◌≢◌, ap, subst, subst₂, sym, ◌∙◌, ℕ, List, Err, IfErr, Ok, OnErr, OnOk, Result, length, replicate}
+use Rattle.std.proofs.Common.{◌≡◌, ◌≢◌, ap, subst, ◌∙◌, ℕ, List, Err, IfErr, Ok, OnErr, OnOk, Result, length, replicate}
 use Rattle.block_device.specs.State.{DeviceState}
 use Rattle.journal_model.specs.declared.refusal.JournalError.{JournalError}
 use Rattle.handle.specs.Name.{JournalId}

@@ -1,5 +1,5 @@
 -- Bytes that were taken of an input.
-use Rattle.std.proofs.Common.{◌≡◌, ◌≢◌, ◌+◌, ◌-◌, ◌≤◌, ◌++◌, arith, refl, subst, sym, true, false, ℕ, List, [], Bool, Err, IfOk, Ok, OnOk, Option, Result, length, length-append}
+use Rattle.std.proofs.Common.{◌≡◌, ◌≢◌, ◌+◌, ◌++◌, arith, refl, subst, sym, true, false, ℕ, List, [], Bool, Err, IfOk, Ok, OnOk, Option, Result, length, length-append}
 use Rattle.std.specs.Io.KnownBytes.{Consumes}
 use Rattle.std.proofs.KnownBytes.{Consumes-nil, Consumes-trans}
 use Rattle.nbd_protocol.specs.declared.request.Request.{Request}

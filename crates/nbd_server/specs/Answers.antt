@@ -8,7 +8,7 @@ use Rattle.locked_journal.specs.Known.{TicketKnown}
 use Rattle.shared_journal.specs.Moments.{WasLastJoinedHere}
 use Rattle.volume_service.specs.Session.{NotAwaited}
 use Rattle.byte_volume.specs.Reading.{ReadsRange}
-use Rattle.byte_volume.specs.Writing.{AreNoted, RevokesBlocks, WritesAll, first_whole, whole_blocks}
+use Rattle.byte_volume.specs.Writing.{RevokesBlocks, WritesAll, first_whole, whole_blocks}
 use Rattle.nbd_protocol.specs.declared.request.Request.{Request}
 use Rattle.nbd_protocol.specs.Layout.{simple_reply}
 use Rattle.nbd_protocol.specs.Requests.{IsChange, IsTaken, WantsCommit}

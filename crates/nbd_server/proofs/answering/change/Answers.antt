@@ -1,4 +1,4 @@
-use Rattle.std.proofs.Common.{refl, subst, sym}
+use Rattle.std.proofs.Common.{subst, sym}
 use Rattle.byte_volume.specs.Writing.{AreNoted}
 use Rattle.nbd_server.specs.Answers.IsDone.{NoBytes, NoChange}
 use Rattle.nbd_server.proofs.Changes.{no_change, trim_failed, trimmed, write_failed, written, zeroed, zeros_failed}

@@ -1,10 +1,10 @@
-use Rattle.std.proofs.Common.{◌≡◌, ◌∙◌, ap, ap₂, refl, subst, sym, true≢false, List, ℕ}
+use Rattle.std.proofs.Common.{◌∙◌, ap, ap₂, refl, subst, sym, true≢false, List, ℕ}
 use Rattle.byte_volume.specs.Writing.{AreNoted}
 use Rattle.nbd_protocol.specs.declared.request.Request.{Request}
 use Rattle.nbd_protocol.specs.Layout.{simple_reply}
 use Rattle.nbd_protocol.specs.Requests.{WantsCommit}
 use Rattle.nbd_server.specs.Answers.{IsDone}
-use Rattle.nbd_server.specs.Answers.IsPerformed.{AsDone, AsFailed, AsOwed, AsRead, AsUnread}
+use Rattle.nbd_server.specs.Answers.IsPerformed.{AsFailed, AsOwed, AsRead, AsUnread}
 use Rattle.nbd_server.specs.Causes.{ChangeFails}
 use Rattle.nbd_server.specs.declared.replies.Answer.TheVariants.{Now}
 use Rattle.nbd_server.proofs.answering.perform.Goals as goal

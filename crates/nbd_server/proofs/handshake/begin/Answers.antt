@@ -1,4 +1,3 @@
-use Rattle.std.specs.Io.KnownBytes.{Consumes}
 use Rattle.std.proofs.KnownBytes.{Consumes-trans}
 use Rattle.nbd_server.proofs.handshake.begin.Goals as goal
 
