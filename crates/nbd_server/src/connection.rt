@@ -76,9 +76,7 @@ impl<I: Read + Drop, O: Write + Drop> Connection<'_, I, O> {
                 self.outlet.out.lend(rt, &mut buffers.read);
             }
             let (input, buffers) = (&mut self.input, &mut buffers);
-            let given = answer(
-                rt, alloc, session, &export, stopped, input, buffers, asked,
-            )?;
+            let given = answer(rt, alloc, session, &export, stopped, input, buffers, asked)?;
             self.give(rt, given)?;
         }
         unreachable!()
