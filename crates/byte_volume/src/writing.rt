@@ -34,8 +34,8 @@ pub fn write_range<J: JournalName, D: Device, R: Record, G: Gate, W: Wait>(
     stopped: &mut Stopped,
     tickets: &mut Tickets<J, R>,
 ) -> Result<(), JournalError>
-    ensures once { OnOk result (WritesAll D.state D.honest J.name.shape.block_size J.name.capacity offset bytes.now tickets.new) }
-    ensures left { OnErr result (WritesSome D.state D.honest J.name.shape.block_size offset bytes.now tickets.new) }
+    ensures once { OnOk result (WritesAll D.state D.honest J.name J.name.shape.block_size J.name.capacity offset bytes.now tickets.new) }
+    ensures left { OnErr result (WritesSome D.state D.honest J.name J.name.shape.block_size offset bytes.now tickets.new) }
     ensures noted { AreNoted stopped.new tickets.new }
     ensures kept { stopped.old ≤ stopped.new }
     ensures taken { stopped.old ≤ last_taken → stopped.new ≤ last_taken }
@@ -82,8 +82,8 @@ fn write_once<J: JournalName, D: Device, R: Record, G: Gate, W: Wait>(
 ) -> Result<(), JournalError>
     requires fits { offset + length bytes.now < 2 ^ 64 }
     requires credits { LieWithin J.name.shape.block_size offset (length bytes.now) J.name.capacity }
-    ensures once { OnOk result (AddsTicket (WritesRange D.state D.honest J.name.shape.block_size offset bytes.now) stopped.new tickets.old.items tickets.new.items) }
-    ensures left { OnErr result (MayAddTicket (BeginsRange D.state D.honest J.name.shape.block_size offset bytes.now) stopped.new tickets.old.items tickets.new.items) }
+    ensures once { OnOk result (AddsTicket (WritesRange D.state D.honest J.name J.name.shape.block_size offset bytes.now) stopped.new tickets.old.items tickets.new.items) }
+    ensures left { OnErr result (MayAddTicket (BeginsRange D.state D.honest J.name J.name.shape.block_size offset bytes.now) stopped.new tickets.old.items tickets.new.items) }
     ensures kept { stopped.old ≤ stopped.new }
     ensures taken { stopped.old ≤ last_taken → stopped.new ≤ last_taken }
     ensures err { IfErr result (WriteRefused D.state J.name.shape.block_size J.name.capacity offset (length bytes.now)) }
@@ -106,7 +106,7 @@ fn overlay<J: JournalName, D: Device, R: Record, G: Gate, W: Wait>(
     bytes: &[u8],
 ) -> Result<Vec<u8>, JournalError>
     requires fits { offset + length bytes.now < 2 ^ 64 }
-    ensures overlay { IfOk result (λ whole. IsOverlay D.state D.honest J.name.shape.block_size offset bytes.now whole.items) }
+    ensures overlay { IfOk result (λ whole. IsOverlay D.state D.honest J.name J.name.shape.block_size offset bytes.now whole.items) }
     ensures err { IfErr result (WriteRefused D.state J.name.shape.block_size J.name.capacity offset (length bytes.now)) }
 {
     let mut whole = Vec::new(alloc);
@@ -125,7 +125,7 @@ fn add_head<J: JournalName, D: Device, R: Record, G: Gate, W: Wait>(
     at: u64,
     list: &mut Vec<u8>,
 ) -> Result<(), JournalError>
-    ensures adds { OnOk result (AddsHead D.state D.honest J.name.shape.block_size at list.old.items list.new.items) }
+    ensures adds { OnOk result (AddsHead D.state D.honest J.name J.name.shape.block_size at list.old.items list.new.items) }
     ensures err { IfErr result (CutRefused D.state J.name.shape.block_size at) }
 {
     let size = session.block_size();
@@ -146,7 +146,7 @@ fn add_tail<J: JournalName, D: Device, R: Record, G: Gate, W: Wait>(
     at: u64,
     list: &mut Vec<u8>,
 ) -> Result<(), JournalError>
-    ensures adds { OnOk result (AddsTail D.state D.honest J.name.shape.block_size at list.old.items list.new.items) }
+    ensures adds { OnOk result (AddsTail D.state D.honest J.name J.name.shape.block_size at list.old.items list.new.items) }
     ensures err { IfErr result (CutRefused D.state J.name.shape.block_size at) }
 {
     let size = session.block_size();
@@ -234,8 +234,8 @@ fn write_pieces<J: JournalName, D: Device, R: Record, G: Gate, W: Wait>(
 ) -> Result<(), JournalError>
     requires fits { offset + length bytes.now < 2 ^ 64 }
     requires empty { tickets.old.items ≡ [] }
-    ensures pieces { OnOk result (WritesPieces D.state D.honest J.name.shape.block_size offset tickets.new.items bytes.now) }
-    ensures left { OnErr result (WritesSome D.state D.honest J.name.shape.block_size offset bytes.now tickets.new.items) }
+    ensures pieces { OnOk result (WritesPieces D.state D.honest J.name J.name.shape.block_size offset tickets.new.items bytes.now) }
+    ensures left { OnErr result (WritesSome D.state D.honest J.name J.name.shape.block_size offset bytes.now tickets.new.items) }
     ensures noted { AreNoted stopped.new tickets.new.items }
     ensures kept { stopped.old ≤ stopped.new }
     ensures taken { stopped.old ≤ last_taken → stopped.new ≤ last_taken }
@@ -288,8 +288,8 @@ pub fn write_zeros<J: JournalName, D: Device, R: Record, G: Gate, W: Wait>(
     stopped: &mut Stopped,
     tickets: &mut Tickets<J, R>,
 ) -> Result<(), JournalError>
-    ensures once { OnOk result (WritesAll D.state D.honest J.name.shape.block_size J.name.capacity offset (replicate count 0) tickets.new) }
-    ensures left { OnErr result (WritesSome D.state D.honest J.name.shape.block_size offset (replicate count 0) tickets.new) }
+    ensures once { OnOk result (WritesAll D.state D.honest J.name J.name.shape.block_size J.name.capacity offset (replicate count 0) tickets.new) }
+    ensures left { OnErr result (WritesSome D.state D.honest J.name J.name.shape.block_size offset (replicate count 0) tickets.new) }
     ensures noted { AreNoted stopped.new tickets.new }
     ensures kept { stopped.old ≤ stopped.new }
     ensures taken { stopped.old ≤ last_taken → stopped.new ≤ last_taken }
@@ -319,8 +319,8 @@ fn zero_once<J: JournalName, D: Device, R: Record, G: Gate, W: Wait>(
 ) -> Result<(), JournalError>
     requires fits { offset + count < 2 ^ 64 }
     requires credits { LieWithin J.name.shape.block_size offset count J.name.capacity }
-    ensures once { OnOk result (AddsTicket (WritesRange D.state D.honest J.name.shape.block_size offset (replicate count 0)) stopped.new tickets.old.items tickets.new.items) }
-    ensures left { OnErr result (MayAddTicket (BeginsRange D.state D.honest J.name.shape.block_size offset (replicate count 0)) stopped.new tickets.old.items tickets.new.items) }
+    ensures once { OnOk result (AddsTicket (WritesRange D.state D.honest J.name J.name.shape.block_size offset (replicate count 0)) stopped.new tickets.old.items tickets.new.items) }
+    ensures left { OnErr result (MayAddTicket (BeginsRange D.state D.honest J.name J.name.shape.block_size offset (replicate count 0)) stopped.new tickets.old.items tickets.new.items) }
     ensures kept { stopped.old ≤ stopped.new }
     ensures taken { stopped.old ≤ last_taken → stopped.new ≤ last_taken }
     ensures err { IfErr result (WriteRefused D.state J.name.shape.block_size J.name.capacity offset count) }
@@ -341,8 +341,8 @@ fn zero_pieces<J: JournalName, D: Device, R: Record, G: Gate, W: Wait>(
 ) -> Result<(), JournalError>
     requires fits { offset + count < 2 ^ 64 }
     requires empty { tickets.old.items ≡ [] }
-    ensures pieces { OnOk result (WritesPieces D.state D.honest J.name.shape.block_size offset tickets.new.items (replicate count 0)) }
-    ensures left { OnErr result (WritesSome D.state D.honest J.name.shape.block_size offset (replicate count 0) tickets.new.items) }
+    ensures pieces { OnOk result (WritesPieces D.state D.honest J.name J.name.shape.block_size offset tickets.new.items (replicate count 0)) }
+    ensures left { OnErr result (WritesSome D.state D.honest J.name J.name.shape.block_size offset (replicate count 0) tickets.new.items) }
     ensures noted { AreNoted stopped.new tickets.new.items }
     ensures kept { stopped.old ≤ stopped.new }
     ensures taken { stopped.old ≤ last_taken → stopped.new ≤ last_taken }

@@ -4,7 +4,8 @@ use Rattle.file_device.specs.Files.{FileContents, FileState, HasAgreed, file_sta
 use Rattle.commit_times.specs.Closed.{IsLeftClosed}
 use Rattle.jbench_words.specs.declared.words.Words.{Words}
 use Rattle.jbench_words.specs.declared.words.Words.TheVariants.{Threads, Bench, Serve, OneThread}
-use Rattle.jbench_commands.specs.Obeying.{TextReads, IsOfText, HasObeyed as HasObeyedAlone}
+use Rattle.jbench_files.specs.declared.text.Text.{Text}
+use Rattle.jbench_commands.specs.Obeying.{IsOfText, HasObeyed as HasObeyedAlone}
 use Rattle.script_threads.specs.Runs.{HasFoundFalse, HasServed}
 
 -- the device after `bench` or `serve`: its journal was closed
@@ -15,16 +16,16 @@ pub record IsClosedDone (first : FileContents) : Type 0 where
   pub left : FileState
   pub closed : IsClosedLeft first left
 
--- the command did this
-abbrev pub HasObeyed : (first : FileContents) → (reads : TextReads) → (contents : Option (List ℕ)) → Words → Type 0
-HasObeyed first reads contents (Threads path) = IsOfText reads HasServed
-HasObeyed first reads contents (Bench words) = IsClosedDone first
-HasObeyed first reads contents (Serve words) = IsClosedDone first
-HasObeyed first reads contents (OneThread words) = HasObeyedAlone first reads contents words
+-- the command did this, with the text that it read
+abbrev pub HasObeyed : (first : FileContents) → (text : Text) → (contents : Option (List ℕ)) → Words → Type 0
+HasObeyed first text contents (Threads path) = IsOfText text path.now HasServed
+HasObeyed first text contents (Bench words) = IsClosedDone first
+HasObeyed first text contents (Serve words) = IsClosedDone first
+HasObeyed first text contents (OneThread words) = HasObeyedAlone first text contents words
 
 -- a command that ends with 2 ran clients in threads, and has a false verdict
-abbrev pub HasFoundWrong : (reads : TextReads) → Words → Type 0
-HasFoundWrong reads (Threads path) = IsOfText reads HasFoundFalse
-HasFoundWrong reads (Bench words) = ⊥
-HasFoundWrong reads (Serve words) = ⊥
-HasFoundWrong reads (OneThread words) = ⊥
+abbrev pub HasFoundWrong : Text → Words → Type 0
+HasFoundWrong text (Threads path) = IsOfText text path.now HasFoundFalse
+HasFoundWrong text (Bench words) = ⊥
+HasFoundWrong text (Serve words) = ⊥
+HasFoundWrong text (OneThread words) = ⊥

@@ -9,6 +9,7 @@ mod telling;
 
 use crate::obeying::obey;
 use file_device::UnknownContents;
+use jbench_files::Text;
 use jbench_words::fault::{Status, refuse_rest};
 use jbench_words::{arguments, words};
 use std::fs::File;
@@ -41,6 +42,7 @@ fn hold_streams(rt: &HostRuntime) -> io::Result<(File, File, File)> {
 fn jbench<T: Threads + Wait + Sync>(rt: &HostRuntime, threads: &T) -> io::Result<Status> {
     let _held = hold_streams(rt)?;
     let arguments = arguments::read(rt, rt.alloc())?;
+    let mut text = Text::new(rt.alloc());
     match words::parse(rt.alloc(), arguments.words()) {
         Ok(words) => match arguments.no_text() {
             Some(word) => words::refuse_no_text(rt.alloc(), &words, word, &mut rt.stderr()),
@@ -48,6 +50,7 @@ fn jbench<T: Threads + Wait + Sync>(rt: &HostRuntime, threads: &T) -> io::Result
                 rt,
                 threads,
                 UnknownContents,
+                &mut text,
                 &words,
                 io::writer(rt),
                 rt.stderr(),

@@ -11,18 +11,19 @@ use commit_times::{bench, threads as timed};
 use file_device::{Contents, FileDevice};
 use jbench_commands::obeying as one_thread;
 use jbench_commands::progress::Progress;
-use jbench_files::{Text, device_of, open_pair_within, open_text};
-use jbench_words::fault::{Status, refuse_file};
+use jbench_files::{Text, device_of, open_pair_within};
+use jbench_words::fault::{Status, refuse, refuse_file};
 use jbench_words::words::{BenchWords, ServeWords, Words};
 use std::io;
-use std::io::{BufWriter, Read, Write};
+use std::io::{BufWriter, Write};
 use std::sync::Wait;
 use std::thread::Threads;
 
 /// Bytes of answers that `serve` gathers.
 const GATHERED: usize = 4096;
 
-/// Runs the command that the words name. `contents` is what the files of a log are assumed to hold.
+/// Runs the command that the words name. `contents` is what the files of a log are assumed to hold. `text` takes the text of a script that
+/// the command reads.
 ///
 /// # Errors
 ///
@@ -31,18 +32,19 @@ pub(crate) fn obey<T: Threads + Wait + Sync, C: Contents + Send, W: Write + Drop
     rt: &HostRuntime,
     threads: &T,
     contents: C,
+    text: &mut Text,
     words: &Words<'_>,
     out: W,
     err: E,
 ) -> io::Result<Status>
-    ensures done { IfOk result (λ status. status ≡ Fine → HasObeyed C.contents ⟦<Text as Read>⟧.remaining (W.contents out) words.now) }
-    ensures wrong { IfOk result (λ status. status ≡ VerdictFalse → HasFoundWrong ⟦<Text as Read>⟧.remaining words.now) }
+    ensures done { IfOk result (λ status. status ≡ Fine → HasObeyed C.contents text.new (W.contents out) words.now) }
+    ensures wrong { IfOk result (λ status. status ≡ VerdictFalse → HasFoundWrong text.new words.now) }
 {
     match words {
-        Words::Threads(path) => threads_file(rt, threads, path, out, err),
+        Words::Threads(path) => threads_file(rt, threads, text, path, out, err),
         Words::Bench(words) => bench_files(rt, threads, contents, words, out, err),
         Words::Serve(words) => serve_files(rt, threads, contents, words, err),
-        Words::OneThread(words) => one_thread::obey(rt, contents, words, out, err),
+        Words::OneThread(words) => one_thread::obey(rt, contents, text, words, out, err),
     }
 }
 
@@ -50,17 +52,18 @@ pub(crate) fn obey<T: Threads + Wait + Sync, C: Contents + Send, W: Write + Drop
 fn threads_file<T: Threads + Wait + Sync, W: Write + Drop, E: Write + Drop>(
     rt: &HostRuntime,
     threads: &T,
+    text: &mut Text,
     path: &str,
     out: W,
     err: E,
 ) -> io::Result<Status>
-    ensures done { IfOk result (λ status. status ≡ Fine → IsOfText ⟦<Text as Read>⟧.remaining HasServed) }
-    ensures wrong { IfOk result (λ status. status ≡ VerdictFalse → IsOfText ⟦<Text as Read>⟧.remaining HasFoundFalse) }
+    ensures done { IfOk result (λ status. status ≡ Fine → IsOfText text.new path.now HasServed) }
+    ensures wrong { IfOk result (λ status. status ≡ VerdictFalse → IsOfText text.new path.now HasFoundFalse) }
 {
-    let mut err = err;
-    match open_text(rt, path) {
-        Ok(file) => script_threads::threads(threads, rt.alloc(), path, file.into_text(), out, err),
-        Err(e) => refuse_file(&mut err, path, e),
+    let (alloc, mut err) = (rt.alloc(), err);
+    match text.read_at(rt, alloc, path) {
+        Ok(()) => script_threads::threads(threads, alloc, path, text.bytes(), out, err),
+        Err(fault) => refuse(&mut err, path, &fault),
     }
 }
 

@@ -4,7 +4,7 @@ use Rattle.std.proofs.lemmas.Bool.{false≢true}
 use Rattle.std.specs.Prelude.{◌≢◌, ⊤, Bool, IfOk, IfSome, IsOk, IsSome, None, Some, Result, Err, Ok}
 use Rattle.jbench_words.specs.declared.fault.Status.{Status}
 use Rattle.jbench_words.specs.declared.fault.Status.TheVariants.{Fine, Refused, VerdictFalse}
-use Rattle.jbench_commands.specs.Runs.{HasTakenEither, IsGoodOf, IsWhole}
+use Rattle.jbench_commands.specs.Runs.{HasTakenEither, IsGoodOf}
 use Rattle.script_sweep.specs.declared.counts.NotRight.{NotRight}
 use Rattle.script_sweep.specs.Sweeping.{none_wrong, not_right_of}
 use Rattle.jbench_commands.specs.Sweeps.{HasSwept, IsSweptTo}
@@ -24,12 +24,10 @@ never-wrong (Ok status) other = λ wrong.
     subst IsWrong (sym wrong ∙ refused) tt
 
 -- a script that was read is one of its text
-pub is-taken : {E : Type 0} (known : Option (List ℕ)) (text : List ℕ) (read : Result Good E) → IsWhole known text → IfOk read (IsGoodOf text) → IsOk read → HasTakenEither known
-is-taken known text (Ok (Operations script)) whole is ok =
-    inl (record { script = script; taken = record { of_text = record { text = text; whole = whole; is = is.0.of_text }; limited = is.1; defaults = is.0.defaults } })
-is-taken known text (Ok (Clients script)) whole is ok =
-    inr (record { script = script; of_text = record { text = text; whole = whole; is = is.0 }; servable = is.1 })
-is-taken known text (Err e) whole is ok = absurd (false≢true ok)
+pub is-taken : {E : Type 0} (text : List ℕ) (read : Result Good E) → IfOk read (IsGoodOf text) → IsOk read → HasTakenEither text
+is-taken text (Ok (Operations script)) is ok = inl (record { script = script; taken = record { is = is.0; limited = is.1 } })
+is-taken text (Ok (Clients script)) is ok = inr (record { script = script; is = is.0; servable = is.1 })
+is-taken text (Err e) is ok = absurd (false≢true ok)
 
 -- what a successful command leaves
 pub some-left : {A : Type 0} (P : A → Type 0) (done : Option A) → IsSome done → IfSome done P → (left : A) × P left
@@ -41,8 +39,8 @@ ok-both P Q (Ok left) is p q = (left, p, q)
 ok-both P Q (Err e) is p q = absurd (false≢true is)
 
 -- a sweep that counted nothing ends with 0
-pub ends-swept : (known : Option (List ℕ)) (fails : Bool) (count : ℕ) (status : Status) → HasSwept known fails count → count ≡ 0 → (count ≡ 0 → status ≡ Fine) → IsSweptTo known fails status
-ends-swept known fails count status swept none fine = record { fine = λ now. subst (HasSwept known fails) none swept; other = λ not. absurd (not (fine none)) }
+pub ends-swept : (text : List ℕ) (fails : Bool) (count : ℕ) (status : Status) → HasSwept text fails count → count ≡ 0 → (count ≡ 0 → status ≡ Fine) → IsSweptTo text fails status
+ends-swept text fails count status swept none fine = record { fine = λ now. subst (HasSwept text fails) none swept; other = λ not. absurd (not (fine none)) }
 
 -- a sweep counts nothing if each opening was right
 pub none-counted : (n : NotRight) (count : ℕ) → count ≡ not_right_of n → n ≡ none_wrong → count ≡ 0

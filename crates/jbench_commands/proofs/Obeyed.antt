@@ -37,14 +37,14 @@ recovers false true old new plain before dry = before refl refl
 recovers false false old new plain before dry = plain refl refl
 
 -- a run with or without an image, as the words ask
-pub run-alone : {known : Option (List ℕ)} {words : RunWords} (image : Option LogPaths) → ((paths : LogPaths) → image ≡ Some paths → ⊥) →
-    HasRun IsRunOf known words true → HasRun (runs_told image) known words true
+pub run-alone : {script : List ℕ} {words : RunWords} (image : Option LogPaths) → ((paths : LogPaths) → image ≡ Some paths → ⊥) →
+    HasRun IsRunOf script words true → HasRun (runs_told image) script words true
 run-alone None none ran =
     record { script = ran.script; taken = ran.taken; run = record { stops = ran.run.stops; told = ran.run.told; run = ran.run.run } }
 run-alone (Some paths) none ran = absurd (none paths refl)
 
-pub run-with : {known : Option (List ℕ)} {words : RunWords} (image : Option LogPaths) (paths : LogPaths) → image ≡ Some paths →
-    HasRun IsRunWithImage known words true → HasRun (runs_told image) known words true
-run-with {known} {words} image paths is ran =
-    subst (λ (o : Option LogPaths). HasRun (runs_told o) known words true) (sym is)
+pub run-with : {script : List ℕ} {words : RunWords} (image : Option LogPaths) (paths : LogPaths) → image ≡ Some paths →
+    HasRun IsRunWithImage script words true → HasRun (runs_told image) script words true
+run-with {script} {words} image paths is ran =
+    subst (λ (o : Option LogPaths). HasRun (runs_told o) script words true) (sym is)
     (record { script = ran.script; taken = ran.taken; run = record { stops = ran.run.stops; told = ran.run.told; run = ran.run.run } })

@@ -1,6 +1,6 @@
 -- What a refused apply leaves.
 use Rattle.std.proofs.Common.{◌∙◌, ap, refl, subst, sym}
-use Rattle.std.specs.Prelude.{◌≡◌, ℕ, List, Option, ◌++◌}
+use Rattle.std.specs.Prelude.{◌≡◌, ℕ, List, ◌++◌}
 use Rattle.journal_model.specs.Disk.{Disk, Shape}
 use Rattle.block_device.specs.State.{DeviceState, EachMoment, Stays}
 use Rattle.block_device.proofs.Moments.{each-joins, each-stays}
@@ -36,18 +36,18 @@ after-reads s t u v first each last =
     each-joins P s u v moved (each-stays P u v last moved.now)
 
 -- what an opened log leaves is left on the device that it was opened on
-pub unapplied-after : {D : Type 0} (state : D → DeviceState) (honest : D → Type 0) (device : D) (known : Option (List ℕ)) (opened : OpenedValue D) (operations : List Operation) (after : AfterRefusal) (ending : Ending) (left : Unapplied D)
+pub unapplied-after : {D : Type 0} (state : D → DeviceState) (honest : D → Type 0) (device : D) (text : List ℕ) (opened : OpenedValue D) (operations : List Operation) (after : AfterRefusal) (ending : Ending) (left : Unapplied D)
     → (honest opened.device → IsOpening (state device).shape (state device).disk (state opened.device).disk opened.superblock opened.next)
-    → AreForDevice known (state device) (honest opened.device) operations
-    → IsUnappliedAfter state honest opened operations after ending left → IsUnapplied state honest device known after ending left
-unapplied-after state honest device known opened operations after ending (Unopened d) opens for_device is = absurd is
-unapplied-after {D} state honest device known opened operations after ending (Unbegun d) opens for_device is = record {
+    → AreForDevice text (state device) (honest opened.device) operations
+    → IsUnappliedAfter state honest opened operations after ending left → IsUnapplied state honest device text after ending left
+unapplied-after state honest device text opened operations after ending (Unopened d) opens for_device is = absurd is
+unapplied-after {D} state honest device text opened operations after ending (Unbegun d) opens for_device is = record {
   superblock = opened.superblock;
   next = opened.next;
   opens = λ trust.
       subst (λ (x : D). IsOpening (state device).shape (state device).disk (state x).disk opened.superblock opened.next) (sym is) (opens (subst honest is trust));
 }
-unapplied-after state honest device known opened operations after ending (Undone left) opens for_device is = record {
+unapplied-after state honest device text opened operations after ending (Undone left) opens for_device is = record {
   opened = opened;
   opens = opens;
   operations = operations;

@@ -10,9 +10,9 @@ use Rattle.log_model.specs.Superblock.{wide_features}
 use Rattle.block_device.specs.State.{DeviceState, Stays}
 use Rattle.journal_world.specs.Opening.{IsOpening}
 use Rattle.recovery.specs.Values.{OpenedValue}
+use Rattle.journal_script.specs.Text.{IsTextOf}
 use Rattle.journal_script.specs.declared.measures.Measures.{Measures}
 use Rattle.journal_script.specs.declared.script.Operation.{Operation}
-use Rattle.jbench_commands.specs.Runs.{AreOfText}
 use Rattle.jbench_logs.specs.Said.{opened_line}
 use Rattle.script_client.specs.declared.fault.Fault.{Fault}
 use Rattle.script_client.specs.declared.performing.AfterRefusal.{AfterRefusal}
@@ -85,20 +85,19 @@ pub record IsDoneAfter {D : Type 0} (state : D → DeviceState) (honest : D → 
   pub ends : ending ≡ Close → honest left → EndsWithNext (state left) written
   pub honest_before : honest left → honest opened.device
 
--- operations of a script's text, which is all that the reader had, if that is known; the text agrees with a device in this state, if reads
--- were correct
-pub record AreForDevice (known : Option (List ℕ)) (state : DeviceState) (trust : Type 0) (operations : List Operation) : Type 0 where
+-- operations of a script's text, which agrees with a device in this state, if reads were correct
+pub record AreForDevice (text : List ℕ) (state : DeviceState) (trust : Type 0) (operations : List Operation) : Type 0 where
   pub measures : Measures
-  pub of_text : AreOfText known operations measures
+  pub of_text : IsTextOf text operations measures
   pub are : trust → AreOf state measures
 
 -- all was done with operations of a script for this device, after an opening of it; the lines follow what the writer had
-pub record IsDoneTo {D : Type 0} (state : D → DeviceState) (honest : D → Type 0) (device : D) (known : Option (List ℕ)) (after : AfterRefusal) (ending : Ending) (left : D) (sealed : History) (shown : Option ℕ)
+pub record IsDoneTo {D : Type 0} (state : D → DeviceState) (honest : D → Type 0) (device : D) (text : List ℕ) (after : AfterRefusal) (ending : Ending) (left : D) (sealed : History) (shown : Option ℕ)
     (contents : Option (List ℕ)) : Type 0 where
   pub opened : OpenedValue D
   pub opens : honest opened.device → IsOpening (state device).shape (state device).disk (state opened.device).disk opened.superblock opened.next
   pub operations : List Operation
-  pub for_device : AreForDevice known (state device) (honest opened.device) operations
+  pub for_device : AreForDevice text (state device) (honest opened.device) operations
   pub before : Option (List ℕ)
   pub kept : Keeps contents before
   pub done : IsDoneAfter state honest opened operations after ending left sealed shown before

@@ -1,5 +1,5 @@
 -- What a command with exit status 0 did, by its words.
-use Rattle.std.specs.Prelude.{◌≡◌, ⊤, ℕ, Bool, true, false, List, Option}
+use Rattle.std.specs.Prelude.{◌≡◌, ⊤, ℕ, Bool, true, false, List, Option, string_bytes}
 use Rattle.journal_model.specs.Transaction.{History}
 use Rattle.block_device.specs.State.{DeviceState}
 use Rattle.file_device.specs.Files.{FileContents, FileState, HasAgreed, file_state}
@@ -67,36 +67,31 @@ abbrev pub IsFormatDone : FileContents → FormatWords → Type 0
 IsFormatDone first words =
     IsDoneOver (to_format words.keep_home first) (over_told words.has_to_be_new words.keep_home) (λ old new. IsMade words.measures.log_blocks words.measures.uuid words.measures.wide old new)
 
--- what reads of a text give, if that is known
-abbrev pub TextReads : Type 0
-TextReads = Text → Option (List ℕ)
+-- this was done with the bytes of a text that came from this path
+abbrev pub IsOfText : Text → (path : List ℕ) → (Did : List ℕ → Type 0) → Type 0
+IsOfText text path Did = (string_bytes text.path ≡ path) × Did text.bytes.items
 
--- this was done with the text of an opened file or pipe, as its reads give it
-abbrev pub IsOfText : TextReads → (Did : Option (List ℕ) → Type 0) → Type 0
-IsOfText reads Did = (script : Text) × Did (reads script)
-
--- what `apply` did over two files: it applied its script's operations, and closed the journal unless it had to stay
-pub record IsAppliedOver (first : FileContents) (reads : TextReads) (words : ApplyWords) (contents : Option (List ℕ)) : Type 0 where
-  pub script : Text
+-- what `apply` did over two files: it applied the operations of a script's text, and closed the journal unless it had to stay
+pub record IsAppliedOver (first : FileContents) (words : ApplyWords) (contents : Option (List ℕ)) (script : List ℕ) : Type 0 where
   pub old : FileState
   pub over : IsOverTwo old
   pub left : FileState
   pub sealed : History
   pub shown : Option ℕ
-  pub done : IsDoneTo (file_state first) (HasAgreed first) old (reads script) (after_told words.keep_going words.make_room) (ending_told words.stay) left sealed shown (lines_told words.json contents)
+  pub done : IsDoneTo (file_state first) (HasAgreed first) old script (after_told words.keep_going words.make_room) (ending_told words.stay) left sealed shown (lines_told words.json contents)
   pub closed : words.stay ≡ false → HasAgreed first left → IsLeftClosed (file_state first left) sealed
 
--- What the command did, over log files with this first content, an output with these first contents, and texts whose reads are known so.
-abbrev pub HasObeyed : (first : FileContents) → (reads : TextReads) → (contents : Option (List ℕ)) → OneThreadWords → Type 0
-HasObeyed first reads contents (Run words) = IsOfText reads (λ text. HasRun (runs_told words.image) text words true)
-HasObeyed first reads contents (Sweep words) = IsOfText reads (λ text. HasSwept text words.fails 0)
-HasObeyed first reads contents (Check path) = IsOfText reads HasTakenEither
-HasObeyed first reads contents (Format words) = IsFormatDone first words
-HasObeyed first reads contents (Dump words) = IsDoneOver first IsOverAny (λ old new. HasDumped words.copy old)
-HasObeyed first reads contents (Cat words) = IsDoneOver first IsOverTwo (λ old new. HasLeft words.block old)
-HasObeyed first reads contents (Show path) = ⊤
-HasObeyed first reads contents (Recover words) = IsDoneOver first IsOverTwo (Recovers words.dry_run words.before_damage)
-HasObeyed first reads contents (Upgrade path) = IsDoneOver first IsOverAny HasUpgraded
-HasObeyed first reads contents (Apply words) = IsAppliedOver first reads words contents
-HasObeyed first reads contents (Completions shell) = ⊤
-HasObeyed first reads contents Man = ⊤
+-- What the command did, over log files with this first content, an output with these first contents, and with the text that it read.
+abbrev pub HasObeyed : (first : FileContents) → (text : Text) → (contents : Option (List ℕ)) → OneThreadWords → Type 0
+HasObeyed first text contents (Run words) = IsOfText text words.script.now (λ bytes. HasRun (runs_told words.image) bytes words true)
+HasObeyed first text contents (Sweep words) = IsOfText text words.script.now (λ bytes. HasSwept bytes words.fails 0)
+HasObeyed first text contents (Check path) = IsOfText text path.now HasTakenEither
+HasObeyed first text contents (Format words) = IsFormatDone first words
+HasObeyed first text contents (Dump words) = IsDoneOver first IsOverAny (λ old new. HasDumped words.copy old)
+HasObeyed first text contents (Cat words) = IsDoneOver first IsOverTwo (λ old new. HasLeft words.block old)
+HasObeyed first text contents (Show path) = ⊤
+HasObeyed first text contents (Recover words) = IsDoneOver first IsOverTwo (Recovers words.dry_run words.before_damage)
+HasObeyed first text contents (Upgrade path) = IsDoneOver first IsOverAny HasUpgraded
+HasObeyed first text contents (Apply words) = IsOfText text words.script.now (IsAppliedOver first words contents)
+HasObeyed first text contents (Completions shell) = ⊤
+HasObeyed first text contents Man = ⊤

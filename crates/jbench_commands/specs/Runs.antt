@@ -1,12 +1,10 @@
 -- The script of a command, and what `run` did with it.
-use Rattle.std.specs.Prelude.{◌≡◌, ◌⊎◌, ℕ, ◌≤◌, Bool, List, Option, Some, None, IfSome}
+use Rattle.std.specs.Prelude.{◌≡◌, ◌⊎◌, ℕ, ◌≤◌, Bool, List, Option, Some, None}
 use Rattle.block_device.specs.State.{DeviceState}
 use Rattle.journal_script.specs.Clients.{CanBeServed, IsClientScriptOf}
 use Rattle.journal_script.specs.Measures.{AreLimited}
-use Rattle.journal_script.specs.Text.{IsDefaultElse, IsScriptOf, IsTextOf}
+use Rattle.journal_script.specs.Text.{IsScriptOf}
 use Rattle.journal_script.specs.declared.clients.ClientScript.{ClientScript}
-use Rattle.journal_script.specs.declared.measures.Measures.{Measures}
-use Rattle.journal_script.specs.declared.script.Operation.{Operation}
 use Rattle.journal_script.specs.declared.script.Script.{Script}
 use Rattle.jbench_words.specs.declared.words.RunWords.{RunWords}
 use Rattle.jbench_words.specs.declared.words.StopWords.{StopWords}
@@ -17,41 +15,24 @@ use Rattle.script_run.specs.declared.stops.Stops.{Stops}
 use Rattle.jbench_commands.specs.declared.check.Good.{Good}
 use Rattle.jbench_commands.specs.declared.check.Good.TheVariants.{Operations, Clients}
 
--- the text is all that the reader had, if that is known
-abbrev pub IsWhole : (known : Option (List ℕ)) → List ℕ → Type 0
-IsWhole known text = IfSome known (λ bytes. text ≡ bytes)
-
--- the operations of such a text, which names a device of these measures
-pub record AreOfText (known : Option (List ℕ)) (operations : List Operation) (measures : Measures) : Type 0 where
-  pub text : List ℕ
-  pub whole : IsWhole known text
-  pub is : IsTextOf text operations measures
-
--- a script with such a text's operations and measures, within their limits, and the defaults of missing keys
-pub record IsTaken (known : Option (List ℕ)) (script : Script) : Type 0 where
-  pub of_text : AreOfText known script.operations.items script.measures
+-- a script with the text's operations and measures, within their limits
+pub record IsTaken (text : List ℕ) (script : Script) : Type 0 where
+  pub is : IsScriptOf text script.operations.items script.measures
   pub limited : AreLimited script.measures
-  pub defaults : IsDefaultElse of_text.is.script script.measures
 
--- such a script was accepted
-pub record HasTaken (known : Option (List ℕ)) : Type 0 where
+-- the text's script was accepted
+pub record HasTaken (text : List ℕ) : Type 0 where
   pub script : Script
-  pub taken : IsTaken known script
+  pub taken : IsTaken text script
 
--- such a text's script of clients
-pub record IsClientTaken (known : Option (List ℕ)) (script : ClientScript) : Type 0 where
-  pub text : List ℕ
-  pub whole : IsWhole known text
-  pub is : IsClientScriptOf text script
-
--- such a script was accepted, or one of clients that can be served
-pub record HasTakenClients (known : Option (List ℕ)) : Type 0 where
+-- or it is one of clients, and can be served
+pub record HasTakenClients (text : List ℕ) : Type 0 where
   pub script : ClientScript
-  pub of_text : IsClientTaken known script
+  pub is : IsClientScriptOf text script
   pub servable : CanBeServed script
 
-abbrev pub HasTakenEither : Option (List ℕ) → Type 0
-HasTakenEither known = HasTaken known ⊎ HasTakenClients known
+abbrev pub HasTakenEither : List ℕ → Type 0
+HasTakenEither text = HasTaken text ⊎ HasTakenClients text
 
 -- a good script of this text
 abbrev pub IsGoodOf : List ℕ → Good → Type 0
@@ -86,8 +67,8 @@ abbrev pub runs_told : {A : Type 0} → Option A → Script → Stops → Bool �
 runs_told None script stops right = IsRunOf script stops right
 runs_told (Some image) script stops right = IsRunWithImage script stops right
 
--- a script was accepted and run
-pub record HasRun (Runs : Script → Stops → Bool → Type 0) (known : Option (List ℕ)) (words : RunWords) (right : Bool) : Type 0 where
+-- the text's script was accepted and run
+pub record HasRun (Runs : Script → Stops → Bool → Type 0) (text : List ℕ) (words : RunWords) (right : Bool) : Type 0 where
   pub script : Script
-  pub taken : IsTaken known script
+  pub taken : IsTaken text script
   pub run : IsRunAsTold Runs words script right

@@ -1,5 +1,5 @@
 -- What the command `sweep` did, and how it ends.
-use Rattle.std.specs.Prelude.{◌≡◌, ◌≢◌, ℕ, ◌+◌, Bool, true, false, List, Option}
+use Rattle.std.specs.Prelude.{◌≡◌, ◌≢◌, ℕ, ◌+◌, Bool, true, false, List}
 use Rattle.jbench_words.specs.declared.fault.Status.{Status}
 use Rattle.jbench_words.specs.declared.fault.Status.TheVariants.{Fine, Refused}
 use Rattle.journal_script.specs.declared.script.Script.{Script}
@@ -20,17 +20,17 @@ pub record HasSweptFailures (script : Script) (count : ℕ) : Type 0 where
   pub is : IsFailureSweep (Unit {0}) script counts
   pub counted : count ≡ not_right_of counts.not_right
 
--- a text's script was swept with a stop at each of its writes and, if asked, with each of its calls failing; this many openings in all were
+-- the text's script was swept with a stop at each of its writes and, if asked, with each of its calls failing; this many openings in all were
 -- not right
-pub record HasSwept (known : Option (List ℕ)) (fails : Bool) (count : ℕ) : Type 0 where
+pub record HasSwept (text : List ℕ) (fails : Bool) (count : ℕ) : Type 0 where
   pub script : Script
-  pub taken : IsTaken known script
+  pub taken : IsTaken text script
   pub of_stops : ℕ
   pub stops : HasSweptStops script of_stops
   pub alone : fails ≡ false → count ≡ of_stops
   pub more : fails ≡ true → (of_failures : ℕ) × HasSweptFailures script of_failures × (count ≡ capped (of_stops + of_failures))
 
 -- the command succeeded if it swept and each opening was right; else it was refused
-pub record IsSweptTo (known : Option (List ℕ)) (fails : Bool) (status : Status) : Type 0 where
-  pub fine : status ≡ Fine → HasSwept known fails 0
+pub record IsSweptTo (text : List ℕ) (fails : Bool) (status : Status) : Type 0 where
+  pub fine : status ≡ Fine → HasSwept text fails 0
   pub other : status ≢ Fine → status ≡ Refused

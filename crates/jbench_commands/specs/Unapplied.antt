@@ -35,12 +35,12 @@ IsUnappliedAfter state honest opened operations after ending (Undone left) =
     IsUndone state honest opened operations after ending left.device left.sealed.items left.acknowledged
 
 -- this device was opened, and then such operations of a script for it were applied
-pub record IsUndoneOf {D : Type 0} (state : D → DeviceState) (honest : D → Type 0) (device : D) (known : Option (List ℕ)) (after : AfterRefusal) (ending : Ending)
+pub record IsUndoneOf {D : Type 0} (state : D → DeviceState) (honest : D → Type 0) (device : D) (text : List ℕ) (after : AfterRefusal) (ending : Ending)
     (left : D) (sealed : History) (shown : Option ℕ) : Type 0 where
   pub opened : OpenedValue D
   pub opens : honest opened.device → IsOpening (state device).shape (state device).disk (state opened.device).disk opened.superblock opened.next
   pub operations : List Operation
-  pub for_device : AreForDevice known (state device) (honest opened.device) operations
+  pub for_device : AreForDevice text (state device) (honest opened.device) operations
   pub undone : IsUndone state honest opened operations after ending left sealed shown
 
 -- a device was opened, and this is left
@@ -50,8 +50,8 @@ pub record IsOpenedOnly {D : Type 0} (state : D → DeviceState) (honest : D →
   pub opens : honest left → IsOpening (state device).shape (state device).disk (state left).disk superblock next
 
 -- What a device leaves: no more than a refused opening, at each moment; or it was only opened; or such operations were applied.
-abbrev pub IsUnapplied : {D : Type 0} → (state : D → DeviceState) → (honest : D → Type 0) → D → (known : Option (List ℕ)) → AfterRefusal → Ending → Unapplied D → Type 0
-IsUnapplied state honest device known after ending (Unopened left) = honest left → EachMoment (IsMoment (state device).shape (state device).disk) (state device) (state left)
-IsUnapplied state honest device known after ending (Unbegun left) = IsOpenedOnly state honest device left
-IsUnapplied state honest device known after ending (Undone left) =
-    IsUndoneOf state honest device known after ending left.device left.sealed.items left.acknowledged
+abbrev pub IsUnapplied : {D : Type 0} → (state : D → DeviceState) → (honest : D → Type 0) → D → (text : List ℕ) → AfterRefusal → Ending → Unapplied D → Type 0
+IsUnapplied state honest device text after ending (Unopened left) = honest left → EachMoment (IsMoment (state device).shape (state device).disk) (state device) (state left)
+IsUnapplied state honest device text after ending (Unbegun left) = IsOpenedOnly state honest device left
+IsUnapplied state honest device text after ending (Undone left) =
+    IsUndoneOf state honest device text after ending left.device left.sealed.items left.acknowledged

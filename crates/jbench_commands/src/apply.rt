@@ -20,7 +20,6 @@ use crate::uncommitted::{changes_in, say_last_numbers, say_open_wait, say_uncomm
 use block_device::{Device, read_block};
 use jbench_logs::logs::{refuse, refuse_fault, say_opened};
 use jbench_words::fault::{self, Fault};
-use jbench_words::text::read_text;
 use jbench_words::words::ApplyWords;
 use journal_model::layout::GREATEST_NUMBER;
 use journal_model::{Area, JournalError};
@@ -30,7 +29,7 @@ use recovery::Opened;
 use script_client::{AfterRefusal, AnyHome, Applied, Ending, HomeFact, Performed};
 use std::alloc::Global;
 use std::io;
-use std::io::{LineWriter, Read, Write};
+use std::io::{LineWriter, Write};
 
 /// What an apply needs before it opens the log: the operations, and line-buffered output.
 #[derive(Drop)]
@@ -58,19 +57,19 @@ pub enum Unapplied<D> {
 /// # Errors
 ///
 /// The output could not be written.
-pub fn apply<D: Device + Drop, R: Read + Drop, W: Write + Drop, E: Write + Drop>(
+pub fn apply<D: Device + Drop, W: Write + Drop, E: Write + Drop>(
     alloc: Global,
     words: &ApplyWords<'_>,
     device: D,
-    script: R,
+    script: &[u8],
     out: W,
     err: E,
 ) -> io::Result<Result<Performed<D>, Unapplied<D>>>
     ensures closed { words.now.stay ≡ false → IfOk result (λ done. IfOk done (λ left. D.honest left.device →
         IsLeftClosed (D.state left.device) left.sealed.items)) }
     ensures done { IfOk result (λ done. IfOk done (λ left.
-        IsDoneTo D.state D.honest device (R.remaining script) (after_told words.now.keep_going words.now.make_room) (ending_told words.now.stay) left.device left.sealed.items left.acknowledged (W.contents out))) }
-    ensures left { IfOk result (λ done. IfErr done (IsUnapplied D.state D.honest device (R.remaining script) (after_told words.now.keep_going words.now.make_room) (ending_told words.now.stay))) }
+        IsDoneTo D.state D.honest device script.now (after_told words.now.keep_going words.now.make_room) (ending_told words.now.stay) left.device left.sealed.items left.acknowledged (W.contents out))) }
+    ensures left { IfOk result (λ done. IfErr done (IsUnapplied D.state D.honest device script.now (after_told words.now.keep_going words.now.make_room) (ending_told words.now.stay))) }
 {
     let (mut device, mut err) = (device, err);
     let prepared = match prepare(alloc, &mut device, script, out) {
@@ -107,20 +106,20 @@ pub fn apply<D: Device + Drop, R: Read + Drop, W: Write + Drop, E: Write + Drop>
 /// # Errors
 ///
 /// The output could not be written.
-pub fn apply_as_told<D: Device + Drop, R: Read + Drop, W: Write + Drop, E: Write + Drop>(
+pub fn apply_as_told<D: Device + Drop, W: Write + Drop, E: Write + Drop>(
     alloc: Global,
     words: &ApplyWords<'_>,
     device: D,
-    script: R,
+    script: &[u8],
     out: W,
     err: E,
 ) -> io::Result<Result<Performed<D>, Unapplied<D>>>
     ensures closed { words.now.stay ≡ false → IfOk result (λ done. IfOk done (λ left. D.honest left.device →
         IsLeftClosed (D.state left.device) left.sealed.items)) }
     ensures done { IfOk result (λ done. IfOk done (λ left.
-        IsDoneTo D.state D.honest device (R.remaining script) (after_told words.now.keep_going words.now.make_room) (ending_told words.now.stay) left.device left.sealed.items left.acknowledged
+        IsDoneTo D.state D.honest device script.now (after_told words.now.keep_going words.now.make_room) (ending_told words.now.stay) left.device left.sealed.items left.acknowledged
         (lines_told words.now.json (W.contents out)))) }
-    ensures left { IfOk result (λ done. IfErr done (IsUnapplied D.state D.honest device (R.remaining script) (after_told words.now.keep_going words.now.make_room) (ending_told words.now.stay))) }
+    ensures left { IfOk result (λ done. IfErr done (IsUnapplied D.state D.honest device script.now (after_told words.now.keep_going words.now.make_room) (ending_told words.now.stay))) }
 {
     if words.json {
         let objects = Objects::new(alloc, out)?;
@@ -165,13 +164,13 @@ fn say_unapplied<D>(
 }
 
 /// Reads the operations of a script that agrees with a device, and buffers the output by lines.
-fn prepare<D: Device, R: Read + Drop, W: Write + Drop>(
+fn prepare<D: Device, W: Write + Drop>(
     alloc: Global,
     device: &mut D,
-    script: R,
+    script: &[u8],
     out: W,
 ) -> Result<Prepared<W>, Fault>
-    ensures for_device { IfOk result (λ prepared. AreForDevice (R.remaining script) (D.state device.old) (D.honest device.new) prepared.operations.items) }
+    ensures for_device { IfOk result (λ prepared. AreForDevice script.now (D.state device.old) (D.honest device.new) prepared.operations.items) }
     ensures out { IfOk result (λ prepared. Keeps (W.contents out) (line_writer_contents W.contents prepared.out)) }
     ensures stays { Stays (D.state device.old) (D.state device.new) }
 {
@@ -245,17 +244,16 @@ fn after_of(keep_going: bool, make_room: bool) -> AfterRefusal
 }
 
 /// Reads the operations of a script that agrees with a device.
-fn read_operations<D: Device, R: Read + Drop>(
+fn read_operations<D: Device>(
     alloc: Global,
     device: &mut D,
-    script: R,
+    script: &[u8],
 ) -> Result<Vec<Operation>, Fault>
-    ensures for_device { IfOk result (λ operations. AreForDevice (R.remaining script) (D.state device.old) (D.honest device.new) operations.items) }
+    ensures for_device { IfOk result (λ operations. AreForDevice script.now (D.state device.old) (D.honest device.new) operations.items) }
     ensures stays { Stays (D.state device.old) (D.state device.new) }
 {
-    let text = read_text(alloc, script)?;
     let measures = measures_of(alloc, device)?;
-    Ok(journal_script::read_over(alloc, &text, &measures)?)
+    Ok(journal_script::read_over(alloc, script, &measures)?)
 }
 
 /// The measures of a device and its log.

@@ -4,11 +4,10 @@ ghost use Rattle.jbench_words.specs.declared.fault.Status.TheVariants.{Fine, Ref
 ghost use Rattle.jbench_commands.specs.Runs.{HasTakenEither, IsGoodOf};
 
 use jbench_words::fault::{self, Fault, Status};
-use jbench_words::text::read_text;
 use journal_script::{BadScript, ClientScript, Script, ScriptError};
 use std::alloc::Global;
 use std::io;
-use std::io::{Read, Write};
+use std::io::Write;
 
 /// The key of scripts of clients alone.
 const CLIENTS: &str = "clients";
@@ -22,29 +21,23 @@ enum Good {
 }
 
 /// Says whether a text is a script. `out` gets the count of operations, or the counts of clients, handles and receipts; `err` gets the bad
-/// key or operation and why. A text with the key `clients` is tested for `threads`, any other for `run`. `path` names its file.
+/// key or operation and why. A text with the key `clients` is tested for `threads`, any other for `run`.
 ///
 /// # Errors
 ///
 /// The output could not be written.
-pub fn check<R: Read + Drop, W: Write + Drop, E: Write + Drop>(
+pub fn check<W: Write + Drop, E: Write + Drop>(
     alloc: Global,
-    path: &str,
-    script: R,
+    text: &[u8],
     out: W,
     err: E,
 ) -> io::Result<Status>
-    ensures good { IfOk result (λ status. status ≡ Fine → HasTakenEither (R.remaining script)) }
+    ensures good { IfOk result (λ status. status ≡ Fine → HasTakenEither text.now) }
     ensures other { IfOk result (λ status. status ≢ Fine → status ≡ Refused) }
 {
     let mut err = err;
-    match read_text(alloc, script) {
-        Ok(text) => {
-            let read = read_either(alloc, &text);
-            print(read, out, &mut err)
-        }
-        Err(fault) => fault::refuse(&mut err, path, &fault),
-    }
+    let read = read_either(alloc, text);
+    print(read, out, &mut err)
 }
 
 /// Reads a script of either kind: one of clients if their key is the fault of a script of operations.

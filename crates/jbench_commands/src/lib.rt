@@ -1,4 +1,4 @@
-//! The commands of `jbench`: what they print, and how they end. The caller gives each its reader or device and its two writers. `obeying`
+//! The commands of `jbench`: what they print, and how they end. The caller gives each its text or device and its two writers. `obeying`
 //! opens the files that the words name, and `progress` shows a command's progress on a terminal.
 //!
 //! `apply` applies a script's operations to a log in files, and `objects` prints its lines as JSON; `jbench_logs` has the commands on a log

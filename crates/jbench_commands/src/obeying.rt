@@ -1,4 +1,5 @@
-//! Opens the files that the words name, and runs the command on them.
+//! Opens the files that the words name, and runs the command on them. What it did with a script's text is said of a `Text`, which has it
+//! afterwards.
 ghost use Rattle.std.specs.Prelude.{◌≡◌, ◌≢◌, ◌↔◌, Bool, IfOk, IsOk, false, true};
 ghost use Rattle.jbench_words.specs.declared.fault.Status.TheVariants.{Fine, Refused};
 ghost use Rattle.jbench_files.specs.Cleared.{cleared, log_cleared};
@@ -14,7 +15,7 @@ use crate::progress::Progress;
 use crate::{apply, check, run, sweep};
 use file_device::{Contents, FileDevice};
 use jbench_files::{
-    Cleared, KeptPair, LogCleared, LogPair, RegularFile, Text, Unmade, Unopened, device_before,
+    Cleared, KeptPair, LogCleared, LogPair, Text, TextFile, Unmade, Unopened, device_before,
     device_of, device_to_read, home_bytes, make_device, make_log, make_log_device, make_pair,
     open_log, open_log_to_write, open_or_make_log, open_or_make_pair, open_pair_to_read_within,
     open_pair_within, open_script, open_text, say_failure,
@@ -23,7 +24,7 @@ use jbench_help::{Shell, write_completions, write_manual};
 use jbench_logs::overwriting::may_overwrite;
 use jbench_logs::{logs, recovering};
 use jbench_views::{cat, dump, show};
-use jbench_words::fault::{Status, refuse_file};
+use jbench_words::fault::{Status, refuse, refuse_file};
 use jbench_words::watch::Watch;
 use jbench_words::words::{
     ApplyWords, CatWords, DumpWords, FormatWords, LogPaths, OneThreadWords, RecoverWords, RunWords,
@@ -31,10 +32,10 @@ use jbench_words::words::{
 };
 use std::alloc::Global;
 use std::io;
-use std::io::{ErrorKind, Read, Write};
+use std::io::{ErrorKind, Write};
 
-/// Runs the command that the words name. `contents` is what a log's files are assumed to hold. No command ends with status 2: a sweep
-/// counts only right openings.
+/// Runs the command that the words name. `contents` is what a log's files are assumed to hold. `text` takes the text of a script that the
+/// command reads. No command ends with status 2: a sweep counts only right openings.
 ///
 /// # Errors
 ///
@@ -42,24 +43,25 @@ use std::io::{ErrorKind, Read, Write};
 pub fn obey<C: Contents, W: Write + Drop, E: Write + Drop>(
     rt: &HostRuntime,
     contents: C,
+    text: &mut Text,
     words: &OneThreadWords<'_>,
     out: W,
     err: E,
 ) -> io::Result<Status>
-    ensures done { IfOk result (λ status. status ≡ Fine → HasObeyed C.contents ⟦<Text as Read>⟧.remaining (W.contents out) words.now) }
+    ensures done { IfOk result (λ status. status ≡ Fine → HasObeyed C.contents text.new (W.contents out) words.now) }
     ensures other { IfOk result (λ status. status ≢ Fine → status ≡ Refused) }
 {
     match words {
-        OneThreadWords::Run(words) => run_file(rt, words, out, err),
-        OneThreadWords::Sweep(words) => sweep_file(rt, words, out, err),
-        OneThreadWords::Check(path) => check_file(rt, path, out, err),
+        OneThreadWords::Run(words) => run_file(rt, text, words, out, err),
+        OneThreadWords::Sweep(words) => sweep_file(rt, text, words, out, err),
+        OneThreadWords::Check(path) => check_file(rt, text, path, out, err),
         OneThreadWords::Format(words) => format_files(rt, contents, words, out, err),
         OneThreadWords::Dump(words) => dump_file(rt, contents, words, out, err),
         OneThreadWords::Cat(words) => cat_files(rt, contents, words, out, err),
         OneThreadWords::Show(words) => show_file(rt, contents, words, out, err),
         OneThreadWords::Recover(words) => recover_files(rt, contents, words, out, err),
         OneThreadWords::Upgrade(path) => upgrade_file(rt, contents, path, out, err),
-        OneThreadWords::Apply(words) => apply_files(rt, contents, words, out, err),
+        OneThreadWords::Apply(words) => apply_files(rt, contents, text, words, out, err),
         OneThreadWords::Completions(shell) => print_completions(*shell, out),
         OneThreadWords::Man => print_manual(out),
     }
@@ -84,11 +86,12 @@ fn print_manual<W: Write + Drop>(out: W) -> io::Result<Status>
 /// Runs the script in a file. The files of an image are opened before it is read.
 fn run_file<W: Write + Drop, E: Write + Drop>(
     rt: &HostRuntime,
+    text: &mut Text,
     words: &RunWords<'_>,
     out: W,
     err: E,
 ) -> io::Result<Status>
-    ensures done { IfOk result (λ status. status ≡ Fine → IsOfText ⟦<Text as Read>⟧.remaining (λ text. HasRun (runs_told words.now.image) text words.now true)) }
+    ensures done { IfOk result (λ status. status ≡ Fine → IsOfText text.new words.now.script.now (λ bytes. HasRun (runs_told words.now.image) bytes words.now true)) }
     ensures other { IfOk result (λ status. status ≢ Fine → status ≡ Refused) }
 {
     let mut err = err;
@@ -97,55 +100,69 @@ fn run_file<W: Write + Drop, E: Write + Drop>(
         Err(e) => return refuse_file(&mut err, words.script, e),
     };
     let Some(image) = words.image else {
-        let text = script.into_text();
-        return run::run(rt.alloc(), words, text, None::<ImageFiles>, out, err);
+        return run_opened(rt.alloc(), text, words, script, None, out, err);
     };
-    match open_or_make_pair(rt, image, Some(&script)) {
+    match open_or_make_pair(rt, image, Some(script.file())) {
         Ok(files) => {
             let alloc = rt.alloc();
             let image = ImageFiles { alloc, files };
-            run::run(alloc, words, script.into_text(), Some(image), out, err)
+            run_opened(alloc, text, words, script, Some(image), out, err)
         }
         Err(unopened) => unopened.refuse(&mut err),
     }
 }
 
+/// Runs the script in an open file, with the files of its image, if it has one.
+fn run_opened<W: Write + Drop, E: Write + Drop>(
+    alloc: Global,
+    text: &mut Text,
+    words: &RunWords<'_>,
+    script: TextFile<'_>,
+    image: Option<ImageFiles>,
+    out: W,
+    err: E,
+) -> io::Result<Status>
+    ensures done { IfOk result (λ status. status ≡ Fine → IsOfText text.new script.entry.path.now (λ bytes. HasRun (runs_told image) bytes words.now true)) }
+    ensures other { IfOk result (λ status. status ≢ Fine → status ≡ Refused) }
+{
+    let mut err = err;
+    match text.read(alloc, script) {
+        Ok(()) => run::run(alloc, words, text.bytes(), image, out, err),
+        Err(fault) => refuse(&mut err, words.script, &fault),
+    }
+}
+
 fn sweep_file<W: Write + Drop, E: Write + Drop>(
     rt: &HostRuntime,
+    text: &mut Text,
     words: &SweepWords<'_>,
     out: W,
     err: E,
 ) -> io::Result<Status>
-    ensures done { IfOk result (λ status. status ≡ Fine → IsOfText ⟦<Text as Read>⟧.remaining (λ text. HasSwept text words.now.fails 0)) }
+    ensures done { IfOk result (λ status. status ≡ Fine → IsOfText text.new words.now.script.now (λ bytes. HasSwept bytes words.now.fails 0)) }
     ensures other { IfOk result (λ status. status ≢ Fine → status ≡ Refused) }
 {
-    let mut err = err;
-    match open_text(rt, words.script) {
-        Ok(file) => sweep::sweep(
-            rt.alloc(),
-            words,
-            file.into_text(),
-            Progress::new(rt),
-            out,
-            err,
-        ),
-        Err(e) => refuse_file(&mut err, words.script, e),
+    let (alloc, mut err) = (rt.alloc(), err);
+    match text.read_at(rt, alloc, words.script) {
+        Ok(()) => sweep::sweep(alloc, words, text.bytes(), Progress::new(rt), out, err),
+        Err(fault) => refuse(&mut err, words.script, &fault),
     }
 }
 
 fn check_file<W: Write + Drop, E: Write + Drop>(
     rt: &HostRuntime,
+    text: &mut Text,
     path: &str,
     out: W,
     err: E,
 ) -> io::Result<Status>
-    ensures done { IfOk result (λ status. status ≡ Fine → IsOfText ⟦<Text as Read>⟧.remaining HasTakenEither) }
+    ensures done { IfOk result (λ status. status ≡ Fine → IsOfText text.new path.now HasTakenEither) }
     ensures other { IfOk result (λ status. status ≢ Fine → status ≡ Refused) }
 {
-    let mut err = err;
-    match open_text(rt, path) {
-        Ok(file) => check::check(rt.alloc(), path, file.into_text(), out, err),
-        Err(e) => refuse_file(&mut err, path, e),
+    let (alloc, mut err) = (rt.alloc(), err);
+    match text.read_at(rt, alloc, path) {
+        Ok(()) => check::check(alloc, text.bytes(), out, err),
+        Err(fault) => refuse(&mut err, path, &fault),
     }
 }
 
@@ -407,11 +424,12 @@ fn plan_files<C: Contents, W: Write + Drop, E: Write + Drop>(
 fn apply_files<C: Contents, W: Write + Drop, E: Write + Drop>(
     rt: &HostRuntime,
     contents: C,
+    text: &mut Text,
     words: &ApplyWords<'_>,
     out: W,
     err: E,
 ) -> io::Result<Status>
-    ensures done { IfOk result (λ status. status ≡ Fine → IsAppliedOver C.contents ⟦<Text as Read>⟧.remaining words.now (W.contents out)) }
+    ensures done { IfOk result (λ status. status ≡ Fine → IsOfText text.new words.now.script.now (IsAppliedOver C.contents words.now (W.contents out))) }
     ensures other { IfOk result (λ status. status ≢ Fine → status ≡ Refused) }
 {
     let mut err = err;
@@ -419,30 +437,33 @@ fn apply_files<C: Contents, W: Write + Drop, E: Write + Drop>(
         Ok(files) => files,
         Err(unopened) => return unopened.refuse(&mut err),
     };
-    match open_script(rt, words.script, &files) {
-        Ok(script) => apply_opened(rt, contents, words, files, script, out, err),
-        Err(e) => refuse_file(&mut err, words.script, e),
+    let script = match open_script(rt, words.script, &files) {
+        Ok(script) => script,
+        Err(e) => return refuse_file(&mut err, words.script, e),
+    };
+    match text.read(rt.alloc(), script) {
+        Ok(()) => apply_opened(rt, contents, words, files, text.bytes(), out, err),
+        Err(fault) => refuse(&mut err, words.script, &fault),
     }
 }
 
-/// Applies the operations of the script in this file to the log in these.
+/// Applies a script's operations to the log in these files.
 fn apply_opened<C: Contents, W: Write + Drop, E: Write + Drop>(
     rt: &HostRuntime,
     contents: C,
     words: &ApplyWords<'_>,
     files: LogPair,
-    script: RegularFile,
+    script: &[u8],
     out: W,
     err: E,
 ) -> io::Result<Status>
-    ensures done { IfOk result (λ status. status ≡ Fine → IsAppliedOver C.contents ⟦<Text as Read>⟧.remaining words.now (W.contents out)) }
+    ensures done { IfOk result (λ status. status ≡ Fine → IsAppliedOver C.contents words.now (W.contents out) script.now) }
     ensures other { IfOk result (λ status. status ≢ Fine → status ≡ Refused) }
 {
     let mut err = err;
     match device_of(rt.alloc(), contents, files) {
         Ok(device) => {
             let alloc = rt.alloc();
-            let script = script.into_text();
             let done = apply::apply_as_told(alloc, words, device, script, out, &mut err)?;
             say_failure(apply::device_of(&done), words.paths, &mut err)?;
             Ok(status_of_all(&done))

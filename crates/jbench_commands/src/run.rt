@@ -1,4 +1,4 @@
-//! The command `run`: reads a script, and runs it.
+//! The command `run`: reads a script's text, and runs it.
 ghost use Rattle.std.specs.Prelude.{◌≡◌, ◌≢◌, true, IfErr, IfOk};
 ghost use Rattle.jbench_words.specs.Images.{IsUnmade};
 ghost use Rattle.jbench_words.specs.declared.fault.Status.TheVariants.{Fine, Refused};
@@ -8,13 +8,12 @@ use crate::faults::of_run;
 use crate::object::write_object;
 use block_device::Device;
 use jbench_words::fault::{self, Fault, Status};
-use jbench_words::text::read_text;
 use jbench_words::words::{RunWords, StopWords};
 use journal_script::{HOMES, Measures, Script};
 use script_run::{Stop, Stops};
 use std::alloc::Global;
 use std::io;
-use std::io::{BufWriter, ErrorKind, Read, Write};
+use std::io::{BufWriter, ErrorKind, Write};
 
 /// Runs a script, and prints its lines, the crash image's dump and the verdict on its openings; as one JSON object if the words ask for it.
 /// The crash image is written durably to the device that `image` makes, if it is given, before it is opened. If that device cannot be made,
@@ -23,15 +22,15 @@ use std::io::{BufWriter, ErrorKind, Read, Write};
 /// # Errors
 ///
 /// The output could not be written.
-pub fn run<R: Read + Drop, M: MakeImage + Drop, W: Write + Drop, E: Write + Drop>(
+pub fn run<M: MakeImage + Drop, W: Write + Drop, E: Write + Drop>(
     alloc: Global,
     words: &RunWords<'_>,
-    script: R,
+    script: &[u8],
     image: Option<M>,
     out: W,
     err: E,
 ) -> io::Result<Status>
-    ensures run { IfOk result (λ status. status ≡ Fine → HasRun (runs_told image) (R.remaining script) words.now true) }
+    ensures run { IfOk result (λ status. status ≡ Fine → HasRun (runs_told image) script.now words.now true) }
     ensures other { IfOk result (λ status. status ≢ Fine → status ≡ Refused) }
 {
     let mut err = err;
@@ -130,14 +129,14 @@ fn too_large() -> Fault
 }
 
 /// Reads a script, runs it, and returns the verdict. If the words ask for it, everything is printed at the end, as one object.
-fn verdict_of<R: Read + Drop, M: MakeImage + Drop, W: Write + Drop>(
+fn verdict_of<M: MakeImage + Drop, W: Write + Drop>(
     alloc: Global,
     words: &RunWords<'_>,
-    script: R,
+    script: &[u8],
     image: Option<M>,
     out: W,
 ) -> Result<bool, Fault>
-    ensures run { IfOk result (HasRun (runs_told image) (R.remaining script) words.now) }
+    ensures run { IfOk result (HasRun (runs_told image) script.now words.now) }
     ensures right { IfOk result (λ right. right ≡ true) }
 {
     let script = read_script(alloc, script)?;
@@ -154,11 +153,10 @@ fn verdict_of<R: Read + Drop, M: MakeImage + Drop, W: Write + Drop>(
     Ok(verdict)
 }
 
-/// Reads a script to its end, and tests it.
-pub(crate) fn read_script<R: Read + Drop>(alloc: Global, reader: R) -> Result<Script, Fault>
-    ensures { IfOk result (IsTaken (R.remaining reader)) }
+/// Reads and tests a script.
+pub(crate) fn read_script(alloc: Global, text: &[u8]) -> Result<Script, Fault>
+    ensures { IfOk result (IsTaken text.now) }
 {
-    let text = read_text(alloc, reader)?;
-    let script = journal_script::read(alloc, &text)?;
+    let script = journal_script::read(alloc, text)?;
     Ok(script)
 }

@@ -1,4 +1,4 @@
-//! The command `sweep`: reads a script, and sweeps it.
+//! The command `sweep`: reads a script's text, and sweeps it.
 ghost use Rattle.std.specs.Prelude.{◌≡◌, ◌<◌, IfOk};
 ghost use Rattle.jbench_words.specs.declared.fault.Status.TheVariants.{Fine, VerdictFalse};
 ghost use Rattle.jbench_commands.specs.Sweeps.{HasSwept, HasSweptFailures, HasSweptStops, IsSweptTo};
@@ -12,7 +12,7 @@ use journal_script::Script;
 use script_sweep::{Counts, FailureCounts, ThisJournal};
 use std::alloc::Global;
 use std::io;
-use std::io::{Read, Write};
+use std::io::Write;
 
 /// Runs a script with a stop at each of its writes, opens and judges the crash images, and prints the counts. The images are those of each
 /// choice among the last four writes. If the words ask for it, each device call then fails in turn, and a second line has those counts; or
@@ -21,15 +21,15 @@ use std::io::{Read, Write};
 /// # Errors
 ///
 /// The output could not be written.
-pub fn sweep<R: Read + Drop, P: Watch + Drop, W: Write + Drop, E: Write + Drop>(
+pub fn sweep<P: Watch + Drop, W: Write + Drop, E: Write + Drop>(
     alloc: Global,
     words: &SweepWords<'_>,
-    script: R,
+    script: &[u8],
     watch: P,
     out: W,
     err: E,
 ) -> io::Result<Status>
-    ensures { IfOk result (IsSweptTo (R.remaining script) words.now.fails) }
+    ensures { IfOk result (IsSweptTo script.now words.now.fails) }
 {
     let (mut watch, mut out, mut err) = (watch, out, err);
     match sweep_as_told(alloc, words, script, &mut watch, &mut out, &mut err) {
@@ -53,15 +53,15 @@ fn status_of(count: u64) -> Status
 
 /// Reads and sweeps a script, and returns how many openings were not right. If the words ask for it, one object has the counts, printed at
 /// the end.
-fn sweep_as_told<R: Read + Drop, W: Write>(
+fn sweep_as_told<W: Write>(
     alloc: Global,
     words: &SweepWords<'_>,
-    script: R,
+    script: &[u8],
     watch: &mut impl Watch,
     out: &mut W,
     err: &mut impl Write,
 ) -> Result<u64, Fault>
-    ensures swept { IfOk result (HasSwept (R.remaining script) words.now.fails) }
+    ensures swept { IfOk result (HasSwept script.now words.now.fails) }
     ensures right { IfOk result (λ count. count ≡ 0) }
 {
     if !words.json {
@@ -76,15 +76,15 @@ fn sweep_as_told<R: Read + Drop, W: Write>(
 }
 
 /// Reads and sweeps a script, and returns how many openings were not right.
-fn sweep_script<R: Read + Drop, W: Write>(
+fn sweep_script<W: Write>(
     alloc: Global,
     words: &SweepWords<'_>,
-    script: R,
+    script: &[u8],
     watch: &mut impl Watch,
     out: &mut W,
     err: &mut impl Write,
 ) -> Result<u64, Fault>
-    ensures swept { IfOk result (HasSwept (R.remaining script) words.now.fails) }
+    ensures swept { IfOk result (HasSwept script.now words.now.fails) }
     ensures right { IfOk result (λ count. count ≡ 0) }
 {
     let script = read_script(alloc, script)?;

@@ -24,6 +24,6 @@ pub use pairs::{
     HomeFile, KeptPair, LockedPair, LogFile, LogPair, ReadPair, Unopened, make_log, make_pair,
     open_or_make_log, open_or_make_pair, open_pair, open_pair_to_read, open_script,
 };
-pub use regular::{Identity, RegularFile, open_text, open_to_read};
-pub use text::Text;
+pub use regular::{Identity, RegularFile, open_to_read};
+pub use text::{Text, TextFile, open_text};
 pub use waiting::{open_pair_to_read_within, open_pair_within};

@@ -5,9 +5,10 @@ ghost use Rattle.jbench_words.specs.declared.fault.Status.TheVariants.{Refused};
 
 use crate::locked::{LockedFile, require_name, take, take_shared};
 use crate::regular::{
-    Made, Named, RegularFile, Unclaimed, given_twice, make, open_text, open_there, open_to_read,
-    require_kept, require_place, sync_folders,
+    Made, Named, RegularFile, Unclaimed, given_twice, make, open_there, open_to_read, require_kept,
+    require_place, sync_folders,
 };
+use crate::text::{TextFile, open_text};
 use file_device::{ReadLock, WriteLock};
 use jbench_words::fault::{Status, refuse_file};
 use jbench_words::words::LogPaths;
@@ -252,12 +253,13 @@ fn path_of(made: Option<Made<'_>>) -> Option<&str> {
 /// # Errors
 ///
 /// The path names no script's file, it cannot be read, or it is a file of the log.
-pub fn open_script<R: Files<File = File>>(
+pub fn open_script<'a, R: Files<File = File>>(
     rt: &R,
-    path: &str,
+    path: &'a str,
     files: &LogPair,
-) -> io::Result<RegularFile>
-    ensures { IfOk result (λ script. AreApart files.now.log.file script × AreApart files.now.home.file script) }
+) -> io::Result<TextFile<'a>>
+    ensures path { IfOk result (λ script. script.path.now ≡ path.now) }
+    ensures apart { IfOk result (λ script. AreApart files.now.log.file script.file × AreApart files.now.home.file script.file) }
 {
     let script = open_text(rt, path)?.other_than(files.log.file())?;
     script.other_than(files.home.file())

@@ -3,7 +3,6 @@ ghost use Rattle.std.specs.Prelude.{◌≡◌, ◌≤◌, ◌↔◌, false, true
 ghost use Rattle.std.specs.Fs.{asks_create_new, asks_truncate, metadata_len};
 ghost use Rattle.jbench_files.specs.Apart.{AreApart};
 
-use crate::text::Text;
 use std::fs::{File, Files, Metadata, OpenOptions};
 use std::io::ErrorKind;
 use std::os::unix::fs::{FileTypeExt, MetadataExt};
@@ -120,11 +119,6 @@ impl RegularFile {
         } else {
             Err(io::Error::from(ErrorKind::AlreadyExists))
         }
-    }
-
-    /// The file as a script's text.
-    pub fn into_text(self) -> Text {
-        Text::new(self.file)
     }
 
     pub fn into_file(self) -> File
@@ -245,7 +239,7 @@ pub fn open_to_read<R: Files<File = File>>(rt: &R, path: &str) -> io::Result<Reg
 /// # Errors
 ///
 /// The path names no such file, or it cannot be read.
-pub fn open_text<R: Files<File = File>>(rt: &R, path: &str) -> io::Result<RegularFile> {
+pub(crate) fn open_input<R: Files<File = File>>(rt: &R, path: &str) -> io::Result<RegularFile> {
     let is_input = path == "-";
     let place = if is_input { STANDARD_INPUT } else { path };
     require_text(&fs::metadata(rt, place)?, is_input)?;

@@ -3,8 +3,9 @@ use Rattle.std.specs.Prelude.{◌≡◌, ◌≢◌, ◌≤◌, ◌*◌, ◌-◌,
 use Rattle.journal_model.specs.declared.refusal.JournalError.{JournalError}
 use Rattle.block_device.specs.State.{DeviceState}
 use Rattle.journal_model.specs.Disk.{Shape}
+use Rattle.handle.specs.Name.{JournalId}
 use Rattle.locked_journal.specs.Known.{TicketKnown}
-use Rattle.shared_journal.specs.Moments.{WasLastJoinedThen}
+use Rattle.shared_journal.specs.Moments.{WasLastJoinedHere}
 use Rattle.volume_service.specs.Session.{NotAwaited}
 use Rattle.byte_volume.specs.Reading.{ReadsRange}
 use Rattle.byte_volume.specs.Writing.{RevokesBlocks, WritesAll, first_whole, whole_blocks}
@@ -17,18 +18,18 @@ use Rattle.nbd_server.specs.Causes.{ChangeFails, NotTaken, ReadFails, error_numb
 use Rattle.nbd_server.specs.Input.{TakesPayload}
 use Rattle.nbd_server.specs.Owing.{DueValue}
 
--- at one moment under the lock, this number was at least the last transaction that a handle had joined
-pub record CoversAll (D : Type 0) (upto : ℕ) : Type 0 where
+-- at a moment of the named journal, this number was at least the last transaction that a handle had joined
+pub record CoversAll {D : Type 0} (state : D → DeviceState) (honest : D → Type 0) (name : JournalId) (upto : ℕ) : Type 0 where
   pub last : ℕ
-  pub was_last : WasLastJoinedThen D last
+  pub was_last : WasLastJoinedHere state honest name last
   pub no_less : last ≤ upto
 
 -- a request is owed an answer once all transactions up to a number are committed; every handle noted up to `stopped`, or joined by then,
 -- has at most this number
-pub record IsOwedTo (D : Type 0) (r : Request) (stopped : ℕ) (due : DueValue) : Type 0 where
+pub record IsOwedTo {D : Type 0} (state : D → DeviceState) (honest : D → Type 0) (name : JournalId) (r : Request) (stopped : ℕ) (due : DueValue) : Type 0 where
   pub cookie_is : due.cookie ≡ r.cookie
   pub no_less : stopped ≤ due.upto
-  pub all : CoversAll D due.upto
+  pub all : CoversAll state honest name due.upto
 
 -- the owed answer: a success, only if the seen mark covers the number; or the error of a refused wait
 pub data Releases (D : Type 0) (due : DueValue) (seen : ℕ) (reply : List ℕ) (is_committed : Bool) : Type 0 where
@@ -38,17 +39,17 @@ pub data Releases (D : Type 0) (due : DueValue) (seen : ℕ) (reply : List ℕ) 
 
 -- the handles of these tickets did what a request says: they wrote the bytes after it, or zeros, or revoked the blocks that lie whole in its
 -- range. For no bytes, and for a request that changes none, there was no handle
-pub data IsDone {D : Type 0} (state : D → DeviceState) (honest : D → Type 0) (size capacity : ℕ) (r : Request) (bytes : List ℕ) (tickets : List TicketKnown) : Type 0 where
-  Written : r.command ≡ 1 → length bytes ≡ r.length → WritesAll state honest size capacity r.offset bytes tickets → IsDone state honest size capacity r bytes tickets
-  Zeroed : r.command ≡ 6 → WritesAll state honest size capacity r.offset (replicate r.length 0) tickets → IsDone state honest size capacity r bytes tickets
-  Trimmed : r.command ≡ 4 → RevokesBlocks (first_whole size r.offset) tickets (whole_blocks size r.offset r.length) → IsDone state honest size capacity r bytes tickets
-  NoBytes : r.length ≡ 0 → tickets ≡ [] → IsDone state honest size capacity r bytes tickets
-  NoChange : (IsChange r → ⊥) → tickets ≡ [] → IsDone state honest size capacity r bytes tickets
+pub data IsDone {D : Type 0} (state : D → DeviceState) (honest : D → Type 0) (name : JournalId) (size capacity : ℕ) (r : Request) (bytes : List ℕ) (tickets : List TicketKnown) : Type 0 where
+  Written : r.command ≡ 1 → length bytes ≡ r.length → WritesAll state honest name size capacity r.offset bytes tickets → IsDone state honest name size capacity r bytes tickets
+  Zeroed : r.command ≡ 6 → WritesAll state honest name size capacity r.offset (replicate r.length 0) tickets → IsDone state honest name size capacity r bytes tickets
+  Trimmed : r.command ≡ 4 → RevokesBlocks (first_whole size r.offset) tickets (whole_blocks size r.offset r.length) → IsDone state honest name size capacity r bytes tickets
+  NoBytes : r.length ≡ 0 → tickets ≡ [] → IsDone state honest name size capacity r bytes tickets
+  NoChange : (IsChange r → ⊥) → tickets ≡ [] → IsDone state honest name size capacity r bytes tickets
 
 -- the answer to a read: success, then the bytes of its range
-pub record AnswersRead {D : Type 0} (state : D → DeviceState) (honest : D → Type 0) (size : ℕ) (r : Request) (reply : List ℕ) : Type 0 where
+pub record AnswersRead {D : Type 0} (state : D → DeviceState) (honest : D → Type 0) (name : JournalId) (size : ℕ) (r : Request) (reply : List ℕ) : Type 0 where
   pub bytes : List ℕ
-  pub range : ReadsRange state honest size r.offset bytes
+  pub range : ReadsRange state honest name size r.offset bytes
   pub count : length bytes ≡ r.length
   pub reply_is : reply ≡ simple_reply 0 r.cookie ++ bytes
 
@@ -59,25 +60,25 @@ volume_size shape nameable = min (min shape.home_blocks nameable * shape.block_s
 -- a request that the volume takes was performed, by the handles of these tickets; `bytes` followed it, and handles up to this number are
 -- noted. The answer is the error of a read or a change that failed; a read's bytes; success of a change that wants no commit; or, for one
 -- that does, owed
-pub data IsPerformed {D : Type 0} (state : D → DeviceState) (honest : D → Type 0) (size capacity : ℕ) (r : Request) (bytes : List ℕ) (upto : ℕ) (tickets : List TicketKnown)
+pub data IsPerformed {D : Type 0} (state : D → DeviceState) (honest : D → Type 0) (name : JournalId) (size capacity : ℕ) (r : Request) (bytes : List ℕ) (upto : ℕ) (tickets : List TicketKnown)
     {I : Type 0} (a : Answer I) : Type 0 where
   AsUnread : (why : JournalError) → r.command ≡ 0 → ReadFails state r why → tickets ≡ [] → a ≡ Now (simple_reply (error_number why) r.cookie) →
-      IsPerformed state honest size capacity r bytes upto tickets a
-  AsFailed : (why : JournalError) → ChangeFails state honest size capacity r bytes tickets why → a ≡ Now (simple_reply (error_number why) r.cookie) →
-      IsPerformed state honest size capacity r bytes upto tickets a
-  AsRead : (reply : List ℕ) → r.command ≡ 0 → AnswersRead state honest size r reply → tickets ≡ [] → a ≡ Bytes reply →
-      IsPerformed state honest size capacity r bytes upto tickets a
-  AsDone : r.command ≢ 0 → IsDone state honest size capacity r bytes tickets → (WantsCommit r → ⊥) → a ≡ Now (simple_reply 0 r.cookie) →
-      IsPerformed state honest size capacity r bytes upto tickets a
-  AsOwed : (due : DueValue) → r.command ≢ 0 → IsDone state honest size capacity r bytes tickets → WantsCommit r → IsOwedTo D r upto due → a ≡ Later due →
-      IsPerformed state honest size capacity r bytes upto tickets a
+      IsPerformed state honest name size capacity r bytes upto tickets a
+  AsFailed : (why : JournalError) → ChangeFails state honest name size capacity r bytes tickets why → a ≡ Now (simple_reply (error_number why) r.cookie) →
+      IsPerformed state honest name size capacity r bytes upto tickets a
+  AsRead : (reply : List ℕ) → r.command ≡ 0 → AnswersRead state honest name size r reply → tickets ≡ [] → a ≡ Bytes reply →
+      IsPerformed state honest name size capacity r bytes upto tickets a
+  AsDone : r.command ≢ 0 → IsDone state honest name size capacity r bytes tickets → (WantsCommit r → ⊥) → a ≡ Now (simple_reply 0 r.cookie) →
+      IsPerformed state honest name size capacity r bytes upto tickets a
+  AsOwed : (due : DueValue) → r.command ≢ 0 → IsDone state honest name size capacity r bytes tickets → WantsCommit r → IsOwedTo state honest name r upto due → a ≡ Later due →
+      IsPerformed state honest name size capacity r bytes upto tickets a
 
 -- the answer to a request: it is not taken, which leaves this, by no handle, and the bytes after it are skipped; or it was performed with
 -- them
-pub data IsAnswered {D : Type 0} (state : D → DeviceState) (honest : D → Type 0) (shape : Shape) (capacity nameable : ℕ) (read_only : Bool) (r : Request) (upto : ℕ)
+pub data IsAnswered {D : Type 0} (state : D → DeviceState) (honest : D → Type 0) (name : JournalId) (shape : Shape) (capacity nameable : ℕ) (read_only : Bool) (r : Request) (upto : ℕ)
     (tickets : List TicketKnown) (left : Type 0) (came : List ℕ → Type 0) {I : Type 0} (a : Answer I) : Type 0 where
   Refused : (e : ℕ) (bytes : List ℕ) → e ≢ 0 → NotTaken (volume_size shape nameable) read_only r e → TakesPayload r came bytes → left → tickets ≡ [] →
-      a ≡ Now (simple_reply e r.cookie) → IsAnswered state honest shape capacity nameable read_only r upto tickets left came a
+      a ≡ Now (simple_reply e r.cookie) → IsAnswered state honest name shape capacity nameable read_only r upto tickets left came a
   Taken : (bytes : List ℕ) → IsTaken (volume_size shape nameable) read_only r → TakesPayload r came bytes →
-      IsPerformed state honest shape.block_size capacity r bytes upto tickets a →
-      IsAnswered state honest shape capacity nameable read_only r upto tickets left came a
+      IsPerformed state honest name shape.block_size capacity r bytes upto tickets a →
+      IsAnswered state honest name shape capacity nameable read_only r upto tickets left came a

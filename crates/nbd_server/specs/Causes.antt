@@ -3,6 +3,7 @@ use Rattle.std.specs.Prelude.{◌≡◌, ℕ, Bool, List, replicate}
 use Rattle.journal_model.specs.declared.refusal.JournalError.{JournalError}
 use Rattle.journal_model.specs.declared.refusal.JournalError.TheVariants.{Aborted, Ahead, AlreadyWide, BadBlock, BadBlockSize, BadFeature, BadFirst, BadLength, BadMagic, BadStart, BadType, Damage, Device, ErrnoSet, Full, Memory, NeedSpace, NoCredit, NotDirect, NotEmpty, NotRunning, Revoked, SequenceEnd, TooMany}
 use Rattle.block_device.specs.State.{DeviceState}
+use Rattle.handle.specs.Name.{JournalId}
 use Rattle.locked_journal.specs.Known.{TicketKnown}
 use Rattle.byte_volume.specs.Reading.{RangeRefused}
 use Rattle.byte_volume.specs.Refusals.{TrimRefused, WriteRefused}
@@ -49,11 +50,11 @@ pub data ReadFails {D : Type 0} (state : D → DeviceState) (r : Request) (e : J
   OfRange : RangeRefused state r.offset r.length e → ReadFails state r e
 
 -- why a change fails, and what the handles of these tickets did of it before; `bytes` followed a write
-pub data ChangeFails {D : Type 0} (state : D → DeviceState) (honest : D → Type 0) (size capacity : ℕ) (r : Request) (bytes : List ℕ) (tickets : List TicketKnown)
+pub data ChangeFails {D : Type 0} (state : D → DeviceState) (honest : D → Type 0) (name : JournalId) (size capacity : ℕ) (r : Request) (bytes : List ℕ) (tickets : List TicketKnown)
     (e : JournalError) : Type 0 where
-  OfWrite : r.command ≡ 1 → WriteRefused state size capacity r.offset r.length e → WritesSome state honest size r.offset bytes tickets →
-      ChangeFails state honest size capacity r bytes tickets e
-  OfZeros : r.command ≡ 6 → WriteRefused state size capacity r.offset r.length e → WritesSome state honest size r.offset (replicate r.length 0) tickets →
-      ChangeFails state honest size capacity r bytes tickets e
+  OfWrite : r.command ≡ 1 → WriteRefused state size capacity r.offset r.length e → WritesSome state honest name size r.offset bytes tickets →
+      ChangeFails state honest name size capacity r bytes tickets e
+  OfZeros : r.command ≡ 6 → WriteRefused state size capacity r.offset r.length e → WritesSome state honest name size r.offset (replicate r.length 0) tickets →
+      ChangeFails state honest name size capacity r bytes tickets e
   OfTrim : r.command ≡ 4 → TrimRefused D size capacity r.offset r.length e → RevokesSome (first_whole size r.offset) (whole_blocks size r.offset r.length) tickets →
-      ChangeFails state honest size capacity r bytes tickets e
+      ChangeFails state honest name size capacity r bytes tickets e

@@ -54,7 +54,7 @@ pub fn answer<J: JournalName, D: Device, R: Record, I: Read, W: Wait>(
     buffers: &mut Buffers<I, J, R>,
     asked: Asked<I>,
 ) -> io::Result<Answer<I>>
-    ensures answered { IfOk result (λ answer. IsAnswered D.state D.honest J.name.shape J.name.capacity export.now.nameable export.now.read_only asked stopped.new
+    ensures answered { IfOk result (λ answer. IsAnswered D.state D.honest J.name J.name.shape J.name.capacity export.now.nameable export.now.read_only asked stopped.new
         buffers.new.tickets (session.new ≡ session.old) (Consumes (I.remaining input.old) (I.remaining input.new)) answer) }
     ensures untouched { IfErr result (λ e. session.new ≡ session.old) }
     ensures noted { AreNoted stopped.new buffers.new.tickets }
@@ -101,7 +101,7 @@ pub fn perform<J: JournalName, D: Device, R: Record, I, W: Wait>(
 ) -> Answer<I>
     requires none { tickets.old ≡ [] }
     requires long { asked.command ≡ 1 → length payload.now ≡ asked.length }
-    ensures performed { IsPerformed D.state D.honest J.name.shape.block_size J.name.capacity asked payload.now stopped.new tickets.new result }
+    ensures performed { IsPerformed D.state D.honest J.name J.name.shape.block_size J.name.capacity asked payload.now stopped.new tickets.new result }
     ensures noted { AreNoted stopped.new tickets.new }
     ensures kept { stopped.old ≤ stopped.new }
     ensures taken { stopped.old ≤ last_taken → stopped.new ≤ last_taken }
@@ -140,8 +140,8 @@ pub fn change<J: JournalName, D: Device, R: Record, I, W: Wait>(
     tickets: &mut Tickets<J, R>,
 ) -> Result<(), JournalError>
     requires long { request.now.command ≡ 1 → length payload.now ≡ request.now.length }
-    ensures done { OnOk result (IsDone D.state D.honest J.name.shape.block_size J.name.capacity request.now payload.now tickets.new) }
-    ensures err { IfErr result (ChangeFails D.state D.honest J.name.shape.block_size J.name.capacity request.now payload.now tickets.new) }
+    ensures done { OnOk result (IsDone D.state D.honest J.name J.name.shape.block_size J.name.capacity request.now payload.now tickets.new) }
+    ensures err { IfErr result (ChangeFails D.state D.honest J.name J.name.shape.block_size J.name.capacity request.now payload.now tickets.new) }
     ensures noted { AreNoted stopped.new tickets.new }
     ensures kept { stopped.old ≤ stopped.new }
     ensures taken { stopped.old ≤ last_taken → stopped.new ≤ last_taken }

@@ -55,9 +55,9 @@ impl<I> Due<I> {
         _tickets: &Tickets<J, R>,
         stopped: &Stopped,
     ) -> Due<I>
-        requires done { IsDone D.state D.honest J.name.shape.block_size J.name.capacity asked _payload.now _tickets.now }
+        requires done { IsDone D.state D.honest J.name J.name.shape.block_size J.name.capacity asked _payload.now _tickets.now }
         requires noted { AreNoted stopped.now _tickets.now }
-        ensures { IsOwedTo D asked stopped.now result }
+        ensures { IsOwedTo D.state D.honest J.name asked stopped.now result }
     {
         let (last, noted) = (session.last_joined(rt), stopped.upto());
         let upto = if last.0 < noted.0 { noted } else { last };
@@ -127,7 +127,7 @@ impl<I> Reply<I> {
         _tickets: &Tickets<J, R>,
     ) -> Reply<I>
         requires change { asked.command ≢ 0 }
-        requires done { IsDone D.state D.honest J.name.shape.block_size J.name.capacity asked _payload.now _tickets.now }
+        requires done { IsDone D.state D.honest J.name J.name.shape.block_size J.name.capacity asked _payload.now _tickets.now }
         requires at_once { WantsCommit asked → ⊥ }
         ensures { result ≡ simple_reply 0 asked.cookie }
     {
@@ -197,7 +197,7 @@ fn read_bytes<J: JournalName, D: Device, R: Record, W: Wait>(
     request: &Request,
     room: &mut Vec<u8>,
 ) -> Result<Vec<u8>, JournalError>
-    ensures ok { IfOk result (λ bytes. AnswersRead D.state D.honest J.name.shape.block_size request.now bytes.items) }
+    ensures ok { IfOk result (λ bytes. AnswersRead D.state D.honest J.name J.name.shape.block_size request.now bytes.items) }
     ensures err { IfErr result (ReadFails D.state request.now) }
 {
     let mut bytes = begin_read(alloc, request, room)?;
@@ -225,7 +225,7 @@ impl<I> ReadReply<I> {
         room: &mut Vec<u8>,
     ) -> Result<ReadReply<I>, (Asked<I>, JournalError)>
         requires read { asked.command ≡ 0 }
-        ensures ok { IfOk result (AnswersRead D.state D.honest J.name.shape.block_size asked) }
+        ensures ok { IfOk result (AnswersRead D.state D.honest J.name J.name.shape.block_size asked) }
         ensures err { IfErr result (λ e. (e.0 ≡ asked) × ReadFails D.state asked e.1) }
     {
         match read_bytes(rt, alloc, session, asked.request(), room) {

@@ -19,7 +19,7 @@ use Rattle.volume_service.specs.Plan.Came.{Awaited, Unawaited}
 use Rattle.volume_service.specs.declared.outcome.ClientOutcome.{ClientOutcome}
 use Rattle.volume_service.specs.declared.plan.HandlePlan.{HandlePlan}
 use Rattle.script_threads.specs.Plans.{ArePlansOf, IsPlanOf, planned, script_steps}
-use Rattle.script_threads.specs.Runs.{AreServed, AreServedOf, HasFoundFalse, HasServed, IsEnded, IsEndedOn, IsOfText, IsTold, WasServed, named_by}
+use Rattle.script_threads.specs.Runs.{AreServed, AreServedOf, IsEnded, IsEndedOn, IsTold, WasServed, named_by}
 use Rattle.script_threads.specs.Runs.WasServed.{Awaited as WasAwaited, Unawaited as WasUnawaited}
 use Rattle.script_threads.specs.Verdicts.{Told}
 use Rattle.script_threads.specs.declared.running.Ended.{Ended}
@@ -109,23 +109,10 @@ ended-of script plans named are names none (Refused clients) is = tt
 ended-of script plans named are names none (Judged v) is = record {
   served = is.served;
   each = all-of script.measures.block_size is.served.committed is.served.sealed script.clients.items plans is.served.clients are is.each;
+  name = is.name;
   left = is.left;
   named = named;
   names = names;
   no_directs = none;
   verdicts = is.verdicts;
 }
-
--- An equal text is also all that the reader had.
-whole-of : (known : Option (List ℕ)) (text same : List ℕ) → text ≡ same → IfSome known (λ bytes. same ≡ bytes) → IfSome known (λ bytes. text ≡ bytes)
-whole-of None text same is all = tt
-whole-of (Some bytes) text same is all = is ∙ all
-
-text-of : (known : Option (List ℕ)) (text same : List ℕ) → text ≡ same → IfSome known (λ bytes. same ≡ bytes) → (script : ClientScript) → IsOfText (Some text) script → IsOfText known script
-text-of known text same is all script of = record { text = of.text; whole = whole-of known of.text same (of.whole ∙ is) all; is = of.is }
-
-pub of-reader : (known : Option (List ℕ)) (text same : List ℕ) → text ≡ same → IfSome known (λ bytes. same ≡ bytes) → HasServed (Some text) → HasServed known
-of-reader known text same is all served = record { script = served.script; of_text = text-of known text same is all served.script served.of_text; run = served.run }
-
-pub wrong-of-reader : (known : Option (List ℕ)) (text same : List ℕ) → text ≡ same → IfSome known (λ bytes. same ≡ bytes) → HasFoundFalse (Some text) → HasFoundFalse known
-wrong-of-reader known text same is all found = record { script = found.script; of_text = text-of known text same is all found.script found.of_text; run = found.run }

@@ -1,11 +1,12 @@
 -- The result of running the clients of a script in threads.
-use Rattle.std.specs.Prelude.{◌≡◌, ⊤, ℕ, Bool, true, false, List, [], Option, Some, None, All, IfSome, Vec}
+use Rattle.std.specs.Prelude.{◌≡◌, ⊤, ℕ, Bool, true, false, List, [], Option, Some, None, All, Vec}
 use Rattle.std.specs.BTreeSet.{keys}
 use Rattle.std.specs.Global.{Global}
 use Rattle.std.specs.List.{AllZip}
 use Rattle.journal_model.specs.declared.transaction.Step.{Step}
 use Rattle.journal_model.specs.Transaction.{History}
 use Rattle.block_device.specs.Memory.{state_of}
+use Rattle.handle.specs.Name.{JournalId}
 use Rattle.locked_journal.specs.Own.{Confirms, stopped_own}
 use Rattle.journal_script.specs.Clients.{HasTouchedAll, IsClientScriptOf, handles_of}
 use Rattle.journal_script.specs.declared.clients.ClientHandle.{ClientHandle}
@@ -54,7 +55,8 @@ AreServedOf size committed sealed clients told =
 pub record AreJudged (plans : List (Vec HandlePlan Global)) (named : NamedBlocks) (v : Verdicts) : Type 0 where
   pub served : Served
   pub each : AreServed served.committed served.sealed plans served.clients
-  pub left : IsLeftWith state_of (λ d. Unit {0}) served.device served.sealed served.committed served.word served.entries
+  pub name : JournalId
+  pub left : IsLeftWith state_of (λ d. Unit {0}) name served.device served.sealed served.committed served.word served.entries
   pub verdicts : AreVerdicts served named v
 
 -- Clients were refused something, or these are the verdicts.
@@ -67,7 +69,8 @@ IsEndedOn plans named (Judged v) = AreJudged plans named v
 pub record IsRunOf (script : ClientScript) (v : Verdicts) : Type 0 where
   pub served : Served
   pub each : AreServedOf script.measures.block_size served.committed served.sealed script.clients.items served.clients
-  pub left : IsLeftWith state_of (λ d. Unit {0}) served.device served.sealed served.committed served.word served.entries
+  pub name : JournalId
+  pub left : IsLeftWith state_of (λ d. Unit {0}) name served.device served.sealed served.committed served.word served.entries
   pub named : NamedBlocks
   pub names : All (λ handles. HasTouchedAll handles (keys named.blocks)) (handles_of script)
   pub no_directs : keys named.directs ≡ []
@@ -89,19 +92,13 @@ pub record HasRunWrong (script : ClientScript) : Type 0 where
   pub run : IsRunOf script v
   pub wrong : ¬ AreAllTrue v
 
--- The script is that of all bytes that the reader had, if these are known.
-pub record IsOfText (known : Option (List ℕ)) (script : ClientScript) : Type 0 where
-  pub text : List ℕ
-  pub whole : IfSome known (λ bytes. text ≡ bytes)
-  pub is : IsClientScriptOf text script
-
--- Such a script was run, and all verdicts are true; or one is false.
-pub record HasServed (known : Option (List ℕ)) : Type 0 where
+-- The text's script was run, and all verdicts are true; or one is false.
+pub record HasServed (text : List ℕ) : Type 0 where
   pub script : ClientScript
-  pub of_text : IsOfText known script
+  pub of_text : IsClientScriptOf text script
   pub run : HasRunRight script
 
-pub record HasFoundFalse (known : Option (List ℕ)) : Type 0 where
+pub record HasFoundFalse (text : List ℕ) : Type 0 where
   pub script : ClientScript
-  pub of_text : IsOfText known script
+  pub of_text : IsClientScriptOf text script
   pub run : HasRunWrong script

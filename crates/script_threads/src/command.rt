@@ -1,5 +1,5 @@
 //! The command `threads`: reads a script of clients, runs them in threads, and prints the verdicts.
-ghost use Rattle.std.specs.Prelude.{◌≡◌, IfOk, Some};
+ghost use Rattle.std.specs.Prelude.{◌≡◌, IfOk};
 ghost use Rattle.jbench_words.specs.declared.fault.Status.TheVariants.{Fine, Refused, VerdictFalse};
 ghost use Rattle.script_threads.specs.Runs.{HasFoundFalse, HasRunRight, HasRunWrong, HasServed};
 ghost use Rattle.script_threads.specs.Verdicts.{AreAllTrue};
@@ -7,41 +7,21 @@ ghost use Rattle.script_threads.specs.Verdicts.{AreAllTrue};
 use crate::running::{Ended, RefusedClient, run};
 use crate::verdicts::Verdicts;
 use jbench_words::fault::{self, Fault, Status};
-use jbench_words::text::read_text;
 use journal_script::{ClientScript, ScriptError, read_clients};
 use std::alloc::Global;
 use std::io;
-use std::io::{Read, Write};
+use std::io::Write;
 use std::sync::Wait;
 use std::thread::Threads;
 
-/// Runs the clients of a script in threads, and prints the numbers of clients, handles and receipts, and the verdicts. If clients are
+/// Runs the clients of a text's script in threads, and prints the numbers of clients, handles and receipts, and the verdicts. If clients are
 /// refused something, it prints only one line for each on `err`. If the command can't go on, one line there says why; for a bad script a
 /// second line, indented by two spaces, says where and what is wrong. `path` names the script's file.
 ///
 /// # Errors
 ///
 /// The output can't be written.
-pub fn threads<T: Threads + Wait + Sync, R: Read + Drop, W: Write + Drop, E: Write + Drop>(
-    rt: &T,
-    alloc: Global,
-    path: &str,
-    script: R,
-    out: W,
-    err: E,
-) -> io::Result<Status>
-    ensures done { IfOk result (λ status. status ≡ Fine → HasServed (R.remaining script)) }
-    ensures wrong { IfOk result (λ status. status ≡ VerdictFalse → HasFoundFalse (R.remaining script)) }
-{
-    let mut err = err;
-    match read_text(alloc, script) {
-        Ok(text) => serve_text(rt, alloc, path, &text, out, err),
-        Err(fault) => fault::refuse(&mut err, path, &fault),
-    }
-}
-
-/// Runs the clients if the text is a script.
-fn serve_text<T: Threads + Wait + Sync, W: Write + Drop, E: Write + Drop>(
+pub fn threads<T: Threads + Wait + Sync, W: Write + Drop, E: Write + Drop>(
     rt: &T,
     alloc: Global,
     path: &str,
@@ -49,8 +29,8 @@ fn serve_text<T: Threads + Wait + Sync, W: Write + Drop, E: Write + Drop>(
     out: W,
     err: E,
 ) -> io::Result<Status>
-    ensures done { IfOk result (λ status. status ≡ Fine → HasServed (Some text.now)) }
-    ensures wrong { IfOk result (λ status. status ≡ VerdictFalse → HasFoundFalse (Some text.now)) }
+    ensures done { IfOk result (λ status. status ≡ Fine → HasServed text.now) }
+    ensures wrong { IfOk result (λ status. status ≡ VerdictFalse → HasFoundFalse text.now) }
 {
     let mut err = err;
     match read_clients(alloc, text) {

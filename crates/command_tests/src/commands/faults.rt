@@ -2,6 +2,8 @@
 use crate::output::text_of;
 use jbench_commands::image::ImageFiles;
 use jbench_commands::run::run;
+use jbench_words::fault::{Status, refuse};
+use jbench_words::text::read_text;
 use jbench_words::words::{RunWords, StopWords};
 use std::alloc::Global;
 use std::io;
@@ -61,20 +63,14 @@ impl Write for BrokenWriter {
     }
 }
 
-/// The output of a run whose script cannot be read.
+/// What is said of a script that cannot be read.
 fn said_of_no_script(alloc: Global) -> Result<String, Fail> {
-    let mut out = Vec::new(alloc);
     let mut err = Vec::new(alloc);
-    let image = None::<ImageFiles>;
-    let status = run(
-        alloc,
-        &words(alloc),
-        BrokenReader,
-        image,
-        &mut out,
-        &mut err,
-    )?;
-    text_of(alloc, &out, &err, status)
+    let status = match read_text(alloc, BrokenReader) {
+        Ok(_) => Status::Fine,
+        Err(fault) => refuse(&mut err, "a.json", &fault)?,
+    };
+    text_of(alloc, &[], &err, status)
 }
 
 #[test]

@@ -14,7 +14,7 @@ loop-done-init g c = record {
   kept = omega arith;
   taken = λ first. first;
   begins = λ more cut. refl;
-  pieces = no_byte g.D.Device.state g.D.Device.honest _ c.args.offset c.args.tickets.now.items c.requires.empty;
+  pieces = no_byte g.D.Device.state g.D.Device.honest g.J.JournalName.name _ c.args.offset c.args.tickets.now.items c.requires.empty;
   noted = none_noted c.args.stopped.now c.args.tickets.now.items c.requires.empty;
 }
 
@@ -30,7 +30,7 @@ loop-done-preserved g c =
       kept = search rules;
       taken = λ first. c.write_once.ensures.taken (c.loop-done.invariant.taken first);
       begins = λ more cut. absurd (omega (arith, cut, ends more));
-      pieces = more_bytes g.D.Device.state g.D.Device.honest _ c.args.offset c.loop-done.done c.min-count.result c.write_once.new.stopped c.args.bytes.now _
+      pieces = more_bytes g.D.Device.state g.D.Device.honest g.J.JournalName.name _ c.args.offset c.loop-done.done c.min-count.result c.write_once.new.stopped c.args.bytes.now _
           c.loop-done.tickets.items c.write_once.new.tickets.items (search rules) c.loop-done.invariant.pieces c.in_ok-write_once.ensures.once (search rules);
       noted = noted_added _ c.loop-done.stopped c.write_once.new.stopped c.loop-done.tickets.items c.write_once.new.tickets.items c.write_once.ensures.kept
           c.loop-done.invariant.noted c.in_ok-write_once.ensures.once;
@@ -57,7 +57,7 @@ returns-in_err-write_once-clause-err g c =
 pub returns-in_err-write_once-clause-left : goal.returns-in_err-write_once-clause-left
 returns-in_err-write_once-clause-left g c =
     any_err c.from_residual.result
-    (some_bytes g.D.Device.state g.D.Device.honest _ c.args.offset c.loop-done.done c.min-count.result c.write_once.new.stopped c.args.bytes.now _
+    (some_bytes g.D.Device.state g.D.Device.honest g.J.JournalName.name _ c.args.offset c.loop-done.done c.min-count.result c.write_once.new.stopped c.args.bytes.now _
     c.loop-done.tickets.items c.write_once.new.tickets.items (search rules) c.loop-done.invariant.pieces (search rules) c.in_err-write_once.ensures.left)
 
 pub returns-in_err-write_once-clause-noted : goal.returns-in_err-write_once-clause-noted
@@ -75,4 +75,4 @@ returns-clause-taken g c = c.loop-done.invariant.taken
 -- all is written
 pub returns-clause-pieces : goal.returns-clause-pieces
 returns-clause-pieces g c =
-    all_bytes g.D.Device.state g.D.Device.honest _ c.args.offset c.loop-done.done c.args.bytes.now c.loop-done.tickets.items c.loop-done-test.false c.loop-done.invariant.pieces
+    all_bytes g.D.Device.state g.D.Device.honest g.J.JournalName.name _ c.args.offset c.loop-done.done c.args.bytes.now c.loop-done.tickets.items c.loop-done-test.false c.loop-done.invariant.pieces

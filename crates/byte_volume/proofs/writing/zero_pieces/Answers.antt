@@ -13,7 +13,7 @@ loop-done-init g c = record {
   kept = omega arith;
   taken = λ first. first;
   begins = λ more cut. refl;
-  pieces = no_byte g.D.Device.state g.D.Device.honest _ c.args.offset c.args.tickets.now.items c.requires.empty;
+  pieces = no_byte g.D.Device.state g.D.Device.honest g.J.JournalName.name _ c.args.offset c.args.tickets.now.items c.requires.empty;
   noted = none_noted c.args.stopped.now c.args.tickets.now.items c.requires.empty;
 }
 
@@ -29,7 +29,7 @@ loop-done-preserved g c =
       kept = search rules;
       taken = λ first. c.zero_once.ensures.taken (c.loop-done.invariant.taken first);
       begins = λ more cut. absurd (omega (arith, cut, ends more));
-      pieces = more_zeros g.D.Device.state g.D.Device.honest _ c.args.offset c.loop-done.done c.min-some.result c.zero_once.new.stopped c.loop-done.tickets.items
+      pieces = more_zeros g.D.Device.state g.D.Device.honest g.J.JournalName.name _ c.args.offset c.loop-done.done c.min-some.result c.zero_once.new.stopped c.loop-done.tickets.items
           c.zero_once.new.tickets.items c.loop-done.invariant.pieces c.in_ok-zero_once.ensures.once;
       noted = noted_added _ c.loop-done.stopped c.zero_once.new.stopped c.loop-done.tickets.items c.zero_once.new.tickets.items c.zero_once.ensures.kept
           c.loop-done.invariant.noted c.in_ok-zero_once.ensures.once;
@@ -55,7 +55,7 @@ returns-in_err-zero_once-clause-err g c =
 pub returns-in_err-zero_once-clause-left : goal.returns-in_err-zero_once-clause-left
 returns-in_err-zero_once-clause-left g c =
     any_err c.from_residual.result
-    (some_zeros g.D.Device.state g.D.Device.honest _ c.args.offset c.loop-done.done c.min-some.result c.args.count c.zero_once.new.stopped c.loop-done.tickets.items
+    (some_zeros g.D.Device.state g.D.Device.honest g.J.JournalName.name _ c.args.offset c.loop-done.done c.min-some.result c.args.count c.zero_once.new.stopped c.loop-done.tickets.items
     c.zero_once.new.tickets.items (search rules) c.loop-done.invariant.pieces c.in_err-zero_once.ensures.left)
 
 pub returns-in_err-zero_once-clause-noted : goal.returns-in_err-zero_once-clause-noted
@@ -73,5 +73,5 @@ returns-clause-taken g c = c.loop-done.invariant.taken
 -- all is written
 pub returns-clause-pieces : goal.returns-clause-pieces
 returns-clause-pieces g c =
-    all_zeros g.D.Device.state g.D.Device.honest _ c.args.offset c.loop-done.done c.args.count c.loop-done.tickets.items
+    all_zeros g.D.Device.state g.D.Device.honest g.J.JournalName.name _ c.args.offset c.loop-done.done c.args.count c.loop-done.tickets.items
     (omega (arith, c.loop-done.invariant.within, c.loop-done-test.false)) c.loop-done.invariant.pieces

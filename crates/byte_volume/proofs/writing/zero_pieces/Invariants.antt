@@ -10,7 +10,7 @@ invariant-loop-done g l = record {
   kept : l.fn.stopped ≤ l.stopped;
   taken : l.fn.stopped ≤ last_taken → l.stopped ≤ last_taken;
   begins : l.done < l.count → 0 < (l.offset + l.done) % g.J.JournalName.name.shape.block_size → l.done ≡ 0;
-  pieces : WritesPieces g.D.Device.state g.D.Device.honest g.J.JournalName.name.shape.block_size l.offset l.tickets.items (replicate l.done 0);
+  pieces : WritesPieces g.D.Device.state g.D.Device.honest g.J.JournalName.name g.J.JournalName.name.shape.block_size l.offset l.tickets.items (replicate l.done 0);
   noted : AreNoted l.stopped l.tickets.items;
 }
 

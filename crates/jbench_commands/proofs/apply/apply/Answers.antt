@@ -35,7 +35,7 @@ returns-clause-left g c = λ honest.
 -- the operations' device is left
 pub returns-in-Ok-open-clause-left : goal.returns-in-Ok-open-clause-left
 returns-in-Ok-open-clause-left g c =
-    unapplied-after g.D.Device.state g.D.Device.honest c.args.device (g.R.Read.remaining c.args.script) c.in-Ok-open.opened c.in-Ok.prepared.operations.items
+    unapplied-after g.D.Device.state g.D.Device.honest c.args.device c.args.script.now c.in-Ok-open.opened c.in-Ok.prepared.operations.items
     (after_told c.args.words.now.keep_going c.args.words.now.make_room) (ending_told c.args.words.now.stay) c.in-Err-apply_script.unapplied
     (λ honest. rw (← c.in-Ok.ensures.stays.shape, ← c.in-Ok.ensures.stays.disk) (c.in-Ok-open.ensures.opened honest))
     (record {

@@ -7,7 +7,6 @@ pub returns-in_ok-say_failure-in-Ok-clause-done : goal.returns-in_ok-say_failure
 returns-in_ok-say_failure-in-Ok-clause-done g c = λ fine.
     let found = ok-both _ _ c.in_ok-done-in-Ok.done (c.status_of_all.ensures.fine.0 fine) c.in_ok-done-in-Ok.ensures.done c.in_ok-done-in-Ok.ensures.closed in
     record {
-      script = c.into_text-script.result;
       old = c.in-Ok.device;
       over = over-two c.args.files c.in-Ok.device c.in-Ok.ensures;
       left = found.0.device;

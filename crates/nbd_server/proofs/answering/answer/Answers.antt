@@ -15,7 +15,7 @@ pub returns-in-Some-clause-answered : goal.returns-in-Some-clause-answered
 returns-in-Some-clause-answered g c =
     let why = subst₂ (λ (n : ℕ) (r : Request). NotTaken n c.args.export.now.read_only r c.in-Some.error) c.volume_bytes-bytes.ensures c.request.ensures
     (ByRequest c.in-Some.ensures.refuses.0 c.in-Some.ensures.refuses.1) in
-    not_taken g.D.Device.state g.D.Device.honest g.J.JournalName.name.shape _ _ _ c.args.asked _ c.clear.new.self _ _ c.in-Some.error c.refuse.result c.in-Some.ensures.error why
+    not_taken g.D.Device.state g.D.Device.honest g.J.JournalName.name g.J.JournalName.name.shape _ _ _ c.args.asked _ c.clear.new.self _ _ c.in-Some.error c.refuse.result c.in-Some.ensures.error why
     refl c.clear.ensures c.refuse.ensures.refused c.refuse.ensures.skipped
 
 pub returns-in-Some-clause-noted : goal.returns-in-Some-clause-noted
@@ -46,7 +46,7 @@ returns-clause-answered g c =
     let is : c.args.asked.command ≡ 1 = ap (λ (r : Request). r.command) (sym c.request.ensures) ∙ none.0 in
     let skipped = subst (λ (at : Option (List ℕ)). OnOk c.refuse-2.result ((bytes : List ℕ) × TakesPayload c.args.asked (Consumes at (g.I.Read.remaining c.refuse-2.new.input)) bytes))
     none.1 c.refuse-2.ensures.skipped in
-    not_taken g.D.Device.state g.D.Device.honest g.J.JournalName.name.shape _ _ _ c.args.asked _ c.clear.new.self _ _ 12 c.refuse-2.result (omega arith) (NoBuffer is refl)
+    not_taken g.D.Device.state g.D.Device.honest g.J.JournalName.name g.J.JournalName.name.shape _ _ _ c.args.asked _ c.clear.new.self _ _ 12 c.refuse-2.result (omega arith) (NoBuffer is refl)
     refl c.clear.ensures c.refuse-2.ensures.refused skipped
 
 pub returns-clause-noted : goal.returns-clause-noted

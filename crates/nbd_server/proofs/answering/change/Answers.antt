@@ -14,34 +14,34 @@ returns-then-length-eq0-clause-noted g c = subst (AreNoted c.args.stopped.now) (
 -- a write
 pub returns-then-request-eq-WRITE-clause-done : goal.returns-then-request-eq-WRITE-clause-done
 returns-then-request-eq-WRITE-clause-done g c =
-    written g.D.Device.state g.D.Device.honest _ _ c.args.request.now c.args.payload.now c.bytes-bytes.result.now c.write_range.new.tickets c.write_range.result
+    written g.D.Device.state g.D.Device.honest g.J.JournalName.name _ _ c.args.request.now c.args.payload.now c.bytes-bytes.result.now c.write_range.new.tickets c.write_range.result
     c.if-request-eq-WRITE.true (c.requires.long c.if-request-eq-WRITE.true) c.bytes-bytes.ensures c.write_range.ensures.once
 
 pub returns-then-request-eq-WRITE-clause-err : goal.returns-then-request-eq-WRITE-clause-err
 returns-then-request-eq-WRITE-clause-err g c =
-    write_failed g.D.Device.state g.D.Device.honest _ _ c.args.request.now c.args.payload.now c.bytes-bytes.result.now c.write_range.new.tickets c.write_range.result
+    write_failed g.D.Device.state g.D.Device.honest g.J.JournalName.name _ _ c.args.request.now c.args.payload.now c.bytes-bytes.result.now c.write_range.new.tickets c.write_range.result
     c.if-request-eq-WRITE.true (c.requires.long c.if-request-eq-WRITE.true) c.bytes-bytes.ensures c.write_range.ensures.err c.write_range.ensures.left
 
 -- a write of zeros
 pub returns-then-request-eq-WRITE_ZEROES-clause-done : goal.returns-then-request-eq-WRITE_ZEROES-clause-done
 returns-then-request-eq-WRITE_ZEROES-clause-done g c =
-    zeroed g.D.Device.state g.D.Device.honest _ _ c.args.request.now c.args.payload.now c.write_zeros.new.tickets c.write_zeros.result
+    zeroed g.D.Device.state g.D.Device.honest g.J.JournalName.name _ _ c.args.request.now c.args.payload.now c.write_zeros.new.tickets c.write_zeros.result
     c.if-request-eq-WRITE_ZEROES.true c.write_zeros.ensures.once
 
 pub returns-then-request-eq-WRITE_ZEROES-clause-err : goal.returns-then-request-eq-WRITE_ZEROES-clause-err
 returns-then-request-eq-WRITE_ZEROES-clause-err g c =
-    zeros_failed g.D.Device.state g.D.Device.honest _ _ c.args.request.now c.args.payload.now c.write_zeros.new.tickets c.write_zeros.result
+    zeros_failed g.D.Device.state g.D.Device.honest g.J.JournalName.name _ _ c.args.request.now c.args.payload.now c.write_zeros.new.tickets c.write_zeros.result
     c.if-request-eq-WRITE_ZEROES.true c.write_zeros.ensures.err c.write_zeros.ensures.left
 
 -- a trim
 pub returns-then-request-eq-TRIM-clause-done : goal.returns-then-request-eq-TRIM-clause-done
 returns-then-request-eq-TRIM-clause-done g c =
-    trimmed g.D.Device.state g.D.Device.honest _ _ c.args.request.now c.args.payload.now c.trim_range.new.tickets c.trim_range.result
+    trimmed g.D.Device.state g.D.Device.honest g.J.JournalName.name _ _ c.args.request.now c.args.payload.now c.trim_range.new.tickets c.trim_range.result
     c.if-request-eq-TRIM.true c.trim_range.ensures.blocks
 
 pub returns-then-request-eq-TRIM-clause-err : goal.returns-then-request-eq-TRIM-clause-err
 returns-then-request-eq-TRIM-clause-err g c =
-    trim_failed g.D.Device.state g.D.Device.honest _ _ c.args.request.now c.args.payload.now c.trim_range.new.tickets c.trim_range.result
+    trim_failed g.D.Device.state g.D.Device.honest g.J.JournalName.name _ _ c.args.request.now c.args.payload.now c.trim_range.new.tickets c.trim_range.result
     c.if-request-eq-TRIM.true c.trim_range.ensures.err c.trim_range.ensures.left
 
 -- a request of another kind

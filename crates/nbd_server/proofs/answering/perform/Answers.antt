@@ -36,13 +36,13 @@ change-requires g c = record {
 -- it is done, and wants a commit
 pub of-requires-clause-done : goal.of-requires-clause-done
 of-requires-clause-done g c =
-    subst (λ (r : Request). IsDone g.D.Device.state g.D.Device.honest g.J.JournalName.name.shape.block_size g.J.JournalName.name.capacity r c.args.payload.now c.change.new.tickets)
+    subst (λ (r : Request). IsDone g.D.Device.state g.D.Device.honest g.J.JournalName.name g.J.JournalName.name.shape.block_size g.J.JournalName.name.capacity r c.args.payload.now c.change.new.tickets)
     c.request.ensures c.in-Ok-change.ensures.done
 
 pub returns-then-wants_commit-clause-performed : goal.returns-then-wants_commit-clause-performed
 returns-then-wants_commit-clause-performed g c =
     AsOwed c.of.result (λ is. c.if-request-eq-READ.false (ap (λ (r : Request). r.command) c.request.ensures ∙ is))
-    (subst (λ (r : Request). IsDone g.D.Device.state g.D.Device.honest g.J.JournalName.name.shape.block_size g.J.JournalName.name.capacity r c.args.payload.now c.change.new.tickets)
+    (subst (λ (r : Request). IsDone g.D.Device.state g.D.Device.honest g.J.JournalName.name g.J.JournalName.name.shape.block_size g.J.JournalName.name.capacity r c.args.payload.now c.change.new.tickets)
     c.request.ensures c.in-Ok-change.ensures.done)
     (subst (λ (r : Request). WantsCommit r) c.request.ensures (c.wants_commit.ensures.0 c.if-wants_commit.true)) c.of.ensures refl
 
@@ -52,7 +52,7 @@ done-requires-clause-change g c = λ is. c.if-request-eq-READ.false (ap (λ (r :
 
 pub done-requires-clause-done : goal.done-requires-clause-done
 done-requires-clause-done g c =
-    subst (λ (r : Request). IsDone g.D.Device.state g.D.Device.honest g.J.JournalName.name.shape.block_size g.J.JournalName.name.capacity r c.args.payload.now c.change.new.tickets)
+    subst (λ (r : Request). IsDone g.D.Device.state g.D.Device.honest g.J.JournalName.name g.J.JournalName.name.shape.block_size g.J.JournalName.name.capacity r c.args.payload.now c.change.new.tickets)
     c.request.ensures c.in-Ok-change.ensures.done
 
 pub done-requires-clause-at_once : goal.done-requires-clause-at_once
@@ -63,6 +63,6 @@ done-requires-clause-at_once g c =
 pub returns-in-Err-change-clause-performed : goal.returns-in-Err-change-clause-performed
 returns-in-Err-change-clause-performed g c =
     AsFailed c.in-Err-change.e
-    (subst (λ (r : Request). ChangeFails g.D.Device.state g.D.Device.honest g.J.JournalName.name.shape.block_size g.J.JournalName.name.capacity r c.args.payload.now c.change.new.tickets c.in-Err-change.e)
+    (subst (λ (r : Request). ChangeFails g.D.Device.state g.D.Device.honest g.J.JournalName.name g.J.JournalName.name.shape.block_size g.J.JournalName.name.capacity r c.args.payload.now c.change.new.tickets c.in-Err-change.e)
     c.request.ensures c.in-Err-change.ensures.err)
     (ap (λ (bytes : List ℕ). Now bytes) (c.refused-in-Err-change.ensures ∙ ap (λ (n : ℕ). simple_reply n c.args.asked.cookie) c.error_of-in-Err-change.ensures.number))
