@@ -5,4 +5,5 @@ pub mod Pieces
 pub mod Ranges
 pub mod Refusals
 pub mod Revokes
+pub mod TicketLists
 pub mod WholeBlocks

@@ -1,73 +1,121 @@
 -- Pieces of a byte range, written in order.
-use Rattle.std.proofs.Common.{◌≡◌, ◌≤◌, ◌<◌, ◌+◌, ◌++◌, ◌∙◌, ap, sym, refl, subst, arith, ℕ, List, [], length, take, drop, replicate, length-take-le, take-add, take_all}
+use Rattle.std.proofs.Common.{◌≡◌, ◌≤◌, ◌<◌, ◌+◌, ◌-◌, ◌++◌, ◌∙◌, ap, sym, refl, subst, arith, ℕ, List, [], ◌∷◌, OnErr, OnOk, Result, Ok, Err, length, take, drop, replicate, append_assoc, append-nil, length-take-le, take-add, take_all, take-append-drop}
 use Rattle.std.proofs.lemmas.List.{length-replicate, replicate-append-replicate}
 use Rattle.block_device.specs.State.{DeviceState}
+use Rattle.handle.specs.Name.{JournalId}
 use Rattle.locked_journal.specs.Known.{TicketKnown}
-use Rattle.byte_volume.specs.Writing.{LieWithin, WritesAll, WritesOnce, WritesPieces, WritesRange}
+use Rattle.byte_volume.specs.Writing.{AddsTicket, BeginsRange, LieWithin, MayAddTicket, WritesAll, WritesPieces, WritesRange, WritesSome}
+use Rattle.byte_volume.specs.Writing.MayAddTicket.{NoTicket, OneTicket}
 use Rattle.byte_volume.specs.Writing.WritesPieces.{Further, NoByte}
-
--- a greater number bounds the same transaction
-later : {D : Type 0} (state : D → DeviceState) (honest : D → Type 0) (size offset m n : ℕ) (bytes : List ℕ) → m ≤ n → WritesOnce state honest size offset bytes m →
-    WritesOnce state honest size offset bytes n
-later state honest size offset m n bytes up once = record { ticket = once.ticket; wrote = once.wrote; noted = omega (arith, up, once.noted) }
-
--- and all pieces
-all_later : {D : Type 0} (state : D → DeviceState) (honest : D → Type 0) (size offset m n : ℕ) (bytes : List ℕ) → m ≤ n → WritesPieces state honest size offset m bytes →
-    WritesPieces state honest size offset n bytes
-all_later state honest size offset m n _ up NoByte = NoByte
-all_later state honest size offset m n _ up (Further before piece bytes pieces once is) =
-    Further before piece bytes (all_later state honest size offset m n before up pieces) (later state honest size (offset + length before) m n piece up once) is
-
--- one more piece
-more : {D : Type 0} (state : D → DeviceState) (honest : D → Type 0) (size offset m n k : ℕ) (before piece : List ℕ) → m ≤ n → length before ≡ k →
-    WritesPieces state honest size offset m before → WritesOnce state honest size (offset + k) piece n → WritesPieces state honest size offset n (before ++ piece)
-more state honest size offset m n k before piece up long pieces once =
-    Further before piece (before ++ piece) (all_later state honest size offset m n before up pieces)
-    (subst (λ (j : ℕ). WritesOnce state honest size (offset + j) piece n) (sym long) once) refl
+use Rattle.byte_volume.specs.Writing.WritesSome.{PartOfPiece, WholePieces}
 
 -- no byte is written yet
-pub no_byte : {D : Type 0} (state : D → DeviceState) (honest : D → Type 0) (size offset upto : ℕ) → WritesPieces state honest size offset upto []
-no_byte state honest size offset upto = NoByte
+pub no_byte : {D : Type 0} (state : D → DeviceState) (honest : D → Type 0) (name : JournalId) (size offset : ℕ) (tickets : List TicketKnown) → tickets ≡ [] →
+    WritesPieces state honest name size offset tickets []
+no_byte state honest name size offset tickets none = subst (λ (ts : List TicketKnown). WritesPieces state honest name size offset ts []) (sym none) NoByte
 
-pub more_bytes : {D : Type 0} (state : D → DeviceState) (honest : D → Type 0) (size offset m n done count : ℕ) (bytes piece : List ℕ) (ticket : TicketKnown) → m ≤ n →
-    done + count ≤ length bytes → WritesPieces state honest size offset m (take done bytes) →
-    WritesRange state honest size (offset + done) piece ticket → piece ≡ take count (drop done bytes) → ticket.ticket.tid ≤ n →
-    WritesPieces state honest size offset n (take (done + count) bytes)
-more_bytes state honest size offset m n done count bytes piece ticket up fits pieces wrote is noted =
-    let next = more state honest size offset m n done (take done bytes) piece up (length-take-le done bytes (omega (arith, fits))) pieces
-    (record { ticket = ticket; wrote = wrote; noted = noted }) in
-    subst (WritesPieces state honest size offset n) (ap (λ xs. take done bytes ++ xs) is ∙ sym (take-add done count bytes)) next
+pub nothing : {D : Type 0} (state : D → DeviceState) (honest : D → Type 0) (name : JournalId) (size offset : ℕ) (bytes : List ℕ) (tickets : List TicketKnown) → tickets ≡ [] →
+    WritesSome state honest name size offset bytes tickets
+nothing state honest name size offset bytes tickets none = WholePieces [] bytes (no_byte state honest name size offset tickets none) refl
 
-pub more_zeros : {D : Type 0} (state : D → DeviceState) (honest : D → Type 0) (size offset m n done count : ℕ) → m ≤ n →
-    WritesPieces state honest size offset m (replicate done 0) → WritesOnce state honest size (offset + done) (replicate count 0) n →
-    WritesPieces state honest size offset n (replicate (done + count) 0)
-more_zeros state honest size offset m n done count up pieces once =
-    subst (WritesPieces state honest size offset n) (replicate-append-replicate done count 0)
-    (more state honest size offset m n done (replicate done 0) (replicate count 0) up (length-replicate done 0) pieces once)
+-- one more piece
+more : {D : Type 0} (state : D → DeviceState) (honest : D → Type 0) (name : JournalId) (size offset k upto : ℕ) (old new : List TicketKnown) (before piece : List ℕ) → length before ≡ k →
+    WritesPieces state honest name size offset old before → AddsTicket (WritesRange state honest name size (offset + k) piece) upto old new →
+    WritesPieces state honest name size offset new (before ++ piece)
+more state honest name size offset k upto old new before piece long pieces adds =
+    Further old adds.ticket new before piece (before ++ piece) pieces
+    (subst (λ (j : ℕ). WritesRange state honest name size (offset + j) piece adds.ticket) (sym long) adds.its) adds.added refl
+
+pub more_bytes : {D : Type 0} (state : D → DeviceState) (honest : D → Type 0) (name : JournalId) (size offset done count upto : ℕ) (bytes piece : List ℕ) (old new : List TicketKnown) →
+    done + count ≤ length bytes → WritesPieces state honest name size offset old (take done bytes) →
+    AddsTicket (WritesRange state honest name size (offset + done) piece) upto old new → piece ≡ take count (drop done bytes) →
+    WritesPieces state honest name size offset new (take (done + count) bytes)
+more_bytes state honest name size offset done count upto bytes piece old new fits pieces adds is =
+    let next = more state honest name size offset done upto old new (take done bytes) piece (length-take-le done bytes (omega (arith, fits))) pieces adds in
+    subst (WritesPieces state honest name size offset new) (ap (λ (xs : List ℕ). take done bytes ++ xs) is ∙ sym (take-add done count bytes)) next
+
+pub more_zeros : {D : Type 0} (state : D → DeviceState) (honest : D → Type 0) (name : JournalId) (size offset done count upto : ℕ) (old new : List TicketKnown) →
+    WritesPieces state honest name size offset old (replicate done 0) → AddsTicket (WritesRange state honest name size (offset + done) (replicate count 0)) upto old new →
+    WritesPieces state honest name size offset new (replicate (done + count) 0)
+more_zeros state honest name size offset done count upto old new pieces adds =
+    subst (WritesPieces state honest name size offset new) (replicate-append-replicate done count 0)
+    (more state honest name size offset done upto old new (replicate done 0) (replicate count 0) (length-replicate done 0) pieces adds)
 
 -- all bytes are written
-pub all_bytes : {D : Type 0} (state : D → DeviceState) (honest : D → Type 0) (size offset upto done : ℕ) (bytes : List ℕ) → length bytes ≤ done →
-    WritesPieces state honest size offset upto (take done bytes) → WritesPieces state honest size offset upto bytes
-all_bytes state honest size offset upto done bytes all pieces = subst (WritesPieces state honest size offset upto) (take_all done bytes all) pieces
+pub all_bytes : {D : Type 0} (state : D → DeviceState) (honest : D → Type 0) (name : JournalId) (size offset done : ℕ) (bytes : List ℕ) (tickets : List TicketKnown) → length bytes ≤ done →
+    WritesPieces state honest name size offset tickets (take done bytes) → WritesPieces state honest name size offset tickets bytes
+all_bytes state honest name size offset done bytes tickets all pieces = subst (WritesPieces state honest name size offset tickets) (take_all done bytes all) pieces
+
+pub all_zeros : {D : Type 0} (state : D → DeviceState) (honest : D → Type 0) (name : JournalId) (size offset done n : ℕ) (tickets : List TicketKnown) → done ≡ n →
+    WritesPieces state honest name size offset tickets (replicate done 0) → WritesPieces state honest name size offset tickets (replicate n 0)
+all_zeros state honest name size offset done n tickets all pieces = subst (λ (k : ℕ). WritesPieces state honest name size offset tickets (replicate k 0)) all pieces
+
+-- the next piece was refused
+some : {D : Type 0} (state : D → DeviceState) (honest : D → Type 0) (name : JournalId) (size offset k upto : ℕ) (bytes before piece after : List ℕ) (old new : List TicketKnown) →
+    length before ≡ k → bytes ≡ before ++ piece ++ after → WritesPieces state honest name size offset old before →
+    MayAddTicket (BeginsRange state honest name size (offset + k) piece) upto old new → WritesSome state honest name size offset bytes new
+some state honest name size offset k upto bytes before piece after old new long is pieces (NoTicket same) =
+    WholePieces before (piece ++ after) (subst (λ (ts : List TicketKnown). WritesPieces state honest name size offset ts before) (sym same) pieces)
+    (is ∙ append_assoc before piece after)
+some state honest name size offset k upto bytes before piece after old new long is pieces (OneTicket adds) =
+    PartOfPiece old adds.ticket before piece after pieces
+    (subst (λ (j : ℕ). BeginsRange state honest name size (offset + j) piece adds.ticket) (sym long) adds.its) adds.added is
+
+pub some_bytes : {D : Type 0} (state : D → DeviceState) (honest : D → Type 0) (name : JournalId) (size offset done count upto : ℕ) (bytes piece : List ℕ) (old new : List TicketKnown) →
+    done + count ≤ length bytes → WritesPieces state honest name size offset old (take done bytes) → piece ≡ take count (drop done bytes) →
+    MayAddTicket (BeginsRange state honest name size (offset + done) piece) upto old new → WritesSome state honest name size offset bytes new
+some_bytes state honest name size offset done count upto bytes piece old new fits pieces is may =
+    let rest : List ℕ = drop count (drop done bytes) in
+    let whole : bytes ≡ take done bytes ++ take count (drop done bytes) ++ rest =
+    sym (take-append-drop done bytes) ∙ ap (λ (xs : List ℕ). take done bytes ++ xs) (sym (take-append-drop count (drop done bytes)))
+    ∙ sym (append_assoc (take done bytes) (take count (drop done bytes)) rest) in
+    some state honest name size offset done upto bytes (take done bytes) piece rest old new (length-take-le done bytes (omega (arith, fits)))
+    (whole ∙ ap (λ (xs : List ℕ). take done bytes ++ xs ++ rest) (sym is)) pieces may
+
+pub some_zeros : {D : Type 0} (state : D → DeviceState) (honest : D → Type 0) (name : JournalId) (size offset done count n upto : ℕ) (old new : List TicketKnown) → done + count ≤ n →
+    WritesPieces state honest name size offset old (replicate done 0) → MayAddTicket (BeginsRange state honest name size (offset + done) (replicate count 0)) upto old new →
+    WritesSome state honest name size offset (replicate n 0) new
+some_zeros state honest name size offset done count n upto old new fits pieces may =
+    let rest : ℕ = n - (done + count) in
+    let all : n ≡ done + count + rest = omega (arith, fits) in
+    let whole : replicate n 0 ≡ replicate done 0 ++ replicate count 0 ++ replicate rest 0 =
+    ap (λ (k : ℕ). replicate k 0) all ∙ sym (replicate-append-replicate (done + count) rest 0)
+    ∙ ap (λ (xs : List ℕ). xs ++ replicate rest 0) (sym (replicate-append-replicate done count 0)) in
+    some state honest name size offset done upto (replicate n 0) (replicate done 0) (replicate count 0) (replicate rest 0) old new (length-replicate done 0) whole pieces may
 
 -- one handle wrote all of them
-pub one_piece : {D : Type 0} (state : D → DeviceState) (honest : D → Type 0) (size capacity offset upto : ℕ) (bytes : List ℕ) →
-    WritesOnce state honest size offset bytes upto → WritesAll state honest size capacity offset bytes upto
-one_piece state honest size capacity offset upto bytes once =
+pub one_piece : {D T E : Type 0} (state : D → DeviceState) (honest : D → Type 0) (name : JournalId) (size capacity offset upto : ℕ) (bytes : List ℕ) (old new : List TicketKnown)
+    (result : Result T E) → old ≡ [] → OnOk result (AddsTicket (WritesRange state honest name size offset bytes) upto old new) →
+    OnOk result (WritesAll state honest name size capacity offset bytes new)
+one_piece state honest name size capacity offset upto bytes old new (Ok done) none adds =
     let same : offset ≡ offset + length {A = ℕ} [] = omega arith in
+    let alone : new ≡ adds.ticket ∷ [] = adds.added ∙ ap (λ (ts : List TicketKnown). ts ++ adds.ticket ∷ []) none in
     record {
-      pieces = Further [] bytes bytes NoByte (subst (λ (j : ℕ). WritesOnce state honest size j bytes upto) same once) refl;
-      once = λ within. once;
+      pieces = Further [] adds.ticket new [] bytes bytes NoByte (subst (λ (j : ℕ). WritesRange state honest name size j bytes adds.ticket) same adds.its) alone refl;
+      once = λ within. ap length alone;
     }
+one_piece state honest name size capacity offset upto bytes old new (Err e) none adds = tt
+
+-- or some of them
+pub part_of_one : {D T E : Type 0} (state : D → DeviceState) (honest : D → Type 0) (name : JournalId) (size offset upto : ℕ) (bytes : List ℕ) (old new : List TicketKnown)
+    (result : Result T E) → old ≡ [] → OnErr result (MayAddTicket (BeginsRange state honest name size offset bytes) upto old new) →
+    OnErr result (WritesSome state honest name size offset bytes new)
+part_of_one state honest name size offset upto bytes old new (Ok done) none may = tt
+part_of_one state honest name size offset upto bytes old new (Err e) none may =
+    let same : offset ≡ offset + 0 = omega arith in
+    some state honest name size offset 0 upto bytes [] bytes [] old new refl (sym (append-nil bytes)) (no_byte state honest name size offset old none)
+    (subst (λ (j : ℕ). MayAddTicket (BeginsRange state honest name size j bytes) upto old new) same may)
 
 -- they need more blocks than one handle has credits for
-pub not_within : {D : Type 0} (state : D → DeviceState) (honest : D → Type 0) (size capacity offset upto : ℕ) (bytes : List ℕ) →
-    (LieWithin size offset (length bytes) capacity → ⊥) → WritesPieces state honest size offset upto bytes → WritesAll state honest size capacity offset bytes upto
-not_within state honest size capacity offset upto bytes not pieces = record { pieces = pieces; once = λ within. absurd (not within) }
+pub not_within : {D T E : Type 0} (state : D → DeviceState) (honest : D → Type 0) (name : JournalId) (size capacity offset : ℕ) (bytes : List ℕ) (tickets : List TicketKnown)
+    (result : Result T E) → (LieWithin size offset (length bytes) capacity → ⊥) → OnOk result (WritesPieces state honest name size offset tickets bytes) →
+    OnOk result (WritesAll state honest name size capacity offset bytes tickets)
+not_within state honest name size capacity offset bytes tickets (Ok done) not pieces = record { pieces = pieces; once = λ within. absurd (not within) }
+not_within state honest name size capacity offset bytes tickets (Err e) not pieces = tt
 
-pub zeros_not_within : {D : Type 0} (state : D → DeviceState) (honest : D → Type 0) (size capacity offset upto count : ℕ) →
-    (LieWithin size offset count capacity → ⊥) → WritesPieces state honest size offset upto (replicate count 0) →
-    WritesAll state honest size capacity offset (replicate count 0) upto
-zeros_not_within state honest size capacity offset upto count not pieces =
-    not_within state honest size capacity offset upto (replicate count 0)
+pub zeros_not_within : {D T E : Type 0} (state : D → DeviceState) (honest : D → Type 0) (name : JournalId) (size capacity offset count : ℕ) (tickets : List TicketKnown)
+    (result : Result T E) → (LieWithin size offset count capacity → ⊥) → OnOk result (WritesPieces state honest name size offset tickets (replicate count 0)) →
+    OnOk result (WritesAll state honest name size capacity offset (replicate count 0) tickets)
+zeros_not_within state honest name size capacity offset count tickets result not pieces =
+    not_within state honest name size capacity offset (replicate count 0) tickets result
     (subst (λ (n : ℕ). LieWithin size offset n capacity → ⊥) (sym (length-replicate count 0)) not) pieces

@@ -3,6 +3,7 @@ use Rattle.std.proofs.Common.{◌≡◌, ◌≤◌, ◌++◌, ◌+◌, ◌-◌, 
 use Rattle.std.proofs.lemmas.List.{append_assoc, length-append, length-drop, length-take-le, take_at, take-append-drop}
 use borrow.Rule.Slice.PartMut.{put_mid}
 use Rattle.block_device.specs.State.{DeviceState}
+use Rattle.handle.specs.Name.{JournalId}
 use Rattle.byte_volume.specs.Reading.{ReadsPart, ReadsRange}
 use Rattle.byte_volume.specs.Reading.ReadsRange.{Further}
 
@@ -21,13 +22,13 @@ written_more old bytes rest done n within size =
     rw (append_assoc bytes rest last, ← grouped) (take_at (take done old ++ bytes) (rest ++ last) (done + n) long)
 
 -- the bytes so far, then a part of the next block
-pub further : {D : Type 0} (state : D → DeviceState) (honest : D → Type 0) (size offset done n : ℕ) (old new : List ℕ) → done ≤ length old → n ≤ length new →
-    ReadsRange state honest size offset (take done old) → ReadsPart state honest size ((offset + done) / size) ((offset + done) % size) n (take n new) →
-    ReadsRange state honest size offset (take (done + n) (put_mid done (length old - done) old new))
-further state honest size offset done n old new within few range part =
+pub further : {D : Type 0} (state : D → DeviceState) (honest : D → Type 0) (name : JournalId) (size offset done n : ℕ) (old new : List ℕ) → done ≤ length old → n ≤ length new →
+    ReadsRange state honest name size offset (take done old) → ReadsPart state honest name size ((offset + done) / size) ((offset + done) % size) n (take n new) →
+    ReadsRange state honest name size offset (take (done + n) (put_mid done (length old - done) old new))
+further state honest name size offset done n old new within few range part =
     let count : length (take n new) ≡ n = length-take-le n new few in
     let before : length (take done old) ≡ done = length-take-le done old within in
-    let here = subst (λ (j : ℕ). ReadsPart state honest size ((offset + done) / size) ((offset + done) % size) j (take n new)) (sym count) part in
-    let there = subst (λ (k : ℕ). ReadsPart state honest size ((offset + k) / size) ((offset + k) % size) (length (take n new)) (take n new)) (sym before) here in
+    let here = subst (λ (j : ℕ). ReadsPart state honest name size ((offset + done) / size) ((offset + done) % size) j (take n new)) (sym count) part in
+    let there = subst (λ (k : ℕ). ReadsPart state honest name size ((offset + k) / size) ((offset + k) % size) (length (take n new)) (take n new)) (sym before) here in
     let split = written_more old (take n new) (drop n new) done n within count in
     Further (take done old) (take n new) _ range there (ap (λ (ys : List ℕ). take (done + n) (put_mid done (length old - done) old ys)) (sym (take-append-drop n new)) ∙ split)

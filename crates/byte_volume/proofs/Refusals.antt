@@ -9,8 +9,8 @@ use Rattle.shared_journal.specs.Refusals.{MayHavePaid}
 use Rattle.shared_journal.specs.Refusals.MayHavePaid.{Paid, Unpaid}
 use Rattle.byte_volume.specs.Refusals.{CutRefused, HandleRefused, IsAmong, MeetsRange, RevokeRefused, StepRefused, TrimRefused, WriteRefused}
 use Rattle.byte_volume.specs.Refusals.CutRefused.{NoRest, RestUnread}
-use Rattle.byte_volume.specs.Refusals.HandleRefused.{NotStarted, OfStep}
-use Rattle.byte_volume.specs.Refusals.RevokeRefused.{AtStep, NoHandle, PastEnd as NumbersPastEnd}
+use Rattle.byte_volume.specs.Refusals.HandleRefused.{NoPlace, NotStarted, OfStep}
+use Rattle.byte_volume.specs.Refusals.RevokeRefused.{AtStep, NoHandle, NoPlace as NoPlaceOfOne, PastEnd as NumbersPastEnd}
 use Rattle.byte_volume.specs.Refusals.TrimRefused.{OfHandle as OfTrim}
 use Rattle.byte_volume.specs.Refusals.WriteRefused.{NoBuffer, OfHandle, OfHead, OfTail, PastEnd}
 use Rattle.byte_volume.specs.Writing.{first_whole, whole_blocks}
@@ -26,6 +26,7 @@ step_wider : {D : Type 0} (P Q : ℕ → Type 0) (e : JournalError) → ((b : �
 step_wider P Q e out why = record { handle = why.handle; b = why.b; its = out why.b why.its; credit = why.credit; refused = why.refused }
 
 pub handle_wider : {D : Type 0} (capacity : ℕ) (P Q : ℕ → Type 0) (e : JournalError) → ((b : ℕ) → P b → Q b) → HandleRefused D capacity P e → HandleRefused D capacity Q e
+handle_wider capacity P Q e out (NoPlace is) = NoPlace is
 handle_wider capacity P Q e out (NotStarted credits within why) = NotStarted credits within why
 handle_wider capacity P Q e out (OfStep why) = OfStep (step_wider P Q e out why)
 
@@ -33,6 +34,7 @@ handle_wider capacity P Q e out (OfStep why) = OfStep (step_wider P Q e out why)
 pub some_blocks : {D : Type 0} (capacity first blocks done count : ℕ) (e : JournalError) → first + blocks < 2 ^ 64 → done + count ≤ blocks → count ≤ capacity →
     RevokeRefused D capacity (first + done) count e → HandleRefused D capacity (IsAmong first blocks) e
 some_blocks capacity first blocks done count e fits few within (NumbersPastEnd past is) = absurd (omega (arith, fits, few, past))
+some_blocks capacity first blocks done count e fits few within (NoPlaceOfOne is) = NoPlace is
 some_blocks capacity first blocks done count e fits few within (NoHandle why) = NotStarted count within why
 some_blocks capacity first blocks done count e fits few within (AtStep why) =
     OfStep (step_wider (IsAmong (first + done) count) (IsAmong first blocks) e (λ b among. (omega (arith, among.0), omega (arith, among.1, few))) why)

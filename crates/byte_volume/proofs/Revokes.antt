@@ -6,7 +6,8 @@ use Rattle.journal_front.specs.Values.{HandleValue}
 use Rattle.journal_world.specs.Front.{revoke_step}
 use Rattle.shared_journal.specs.Refusals.{MayHavePaid}
 use Rattle.shared_journal.specs.Refusals.MayHavePaid.{Paid, Unpaid}
-use Rattle.byte_volume.specs.Writing.{RevokesBlocks, revoke_steps}
+use Rattle.byte_volume.specs.Writing.{AddsTicket, MayAddTicket, RevokesBlocks, RevokesFirst, RevokesSome, revoke_steps}
+use Rattle.byte_volume.specs.Writing.MayAddTicket.{NoTicket, OneTicket}
 use Rattle.byte_volume.specs.Writing.RevokesBlocks.{Further, NoBlock}
 use Rattle.locked_journal.specs.Known.{TicketKnown}
 
@@ -29,16 +30,27 @@ one_more first n m k start old new same so_far step =
     ∙ append_assoc start (revoke_steps n first k) (revoke_step n (first + k) ∷ []) in
     subst (λ (j : ℕ). new ≡ start ++ revoke_steps n first j) next joined
 
--- a greater number bounds the same transactions
-later : (first m n blocks : ℕ) → m ≤ n → RevokesBlocks first m blocks → RevokesBlocks first n blocks
-later first m n _ up NoBlock = NoBlock
-later first m n _ up (Further before more blocks ticket revoked steps noted is) =
-    Further before more blocks ticket (later first m n before up revoked) steps (omega (arith, up, noted)) is
+-- no block is revoked yet
+pub no_block : (first : ℕ) (tickets : List TicketKnown) → tickets ≡ [] → RevokesBlocks first tickets 0
+no_block first tickets none = subst (λ (ts : List TicketKnown). RevokesBlocks first ts 0) (sym none) NoBlock
 
-pub no_block : (first upto : ℕ) → RevokesBlocks first upto 0
-no_block first upto = NoBlock
+pub none_of : (first blocks : ℕ) (tickets : List TicketKnown) → tickets ≡ [] → RevokesSome first blocks tickets
+none_of first blocks tickets none = record { count = 0; few = omega arith; revoked = no_block first tickets none }
 
 -- one more handle
-pub more_blocks : (first m n done count : ℕ) (ticket : TicketKnown) → m ≤ n → RevokesBlocks first m done →
-    ticket.steps ≡ revoke_steps ticket.ticket.handle (first + done) count → ticket.ticket.tid ≤ n → RevokesBlocks first n (done + count)
-more_blocks first m n done count ticket up revoked steps noted = Further done count (done + count) ticket (later first m n done up revoked) steps noted refl
+pub more_blocks : (first done count upto : ℕ) (old new : List TicketKnown) → RevokesBlocks first old done →
+    AddsTicket (λ (t : TicketKnown). t.steps ≡ revoke_steps t.ticket.handle (first + done) count) upto old new → RevokesBlocks first new (done + count)
+more_blocks first done count upto old new revoked adds = Further old adds.ticket new done count (done + count) revoked adds.its adds.added refl
+
+-- the next handle was refused
+pub some_blocks_of : (first blocks done count upto : ℕ) (old new : List TicketKnown) → done + count ≤ blocks → RevokesBlocks first old done →
+    MayAddTicket (RevokesFirst (first + done) count) upto old new → RevokesSome first blocks new
+some_blocks_of first blocks done count upto old new fits revoked (NoTicket same) =
+    record { count = done; few = omega (arith, fits); revoked = subst (λ (ts : List TicketKnown). RevokesBlocks first ts done) (sym same) revoked }
+some_blocks_of first blocks done count upto old new fits revoked (OneTicket adds) =
+    let its = adds.its in
+    record {
+      count = done + its.blocks;
+      few = omega (arith, fits, its.few);
+      revoked = Further old adds.ticket new done its.blocks (done + its.blocks) revoked its.steps_are adds.added refl;
+    }

@@ -4,6 +4,7 @@ use Rattle.std.proofs.lemmas.Grind.{div_ceil_times}
 use Rattle.std.proofs.lemmas.Nat.{div_below, div-mul-add, mod-mul-add, mod_below, mul-le}
 use native.Mathlib.Nat.{div-add-mod'}
 use Rattle.block_device.specs.State.{DeviceState}
+use Rattle.handle.specs.Name.{JournalId}
 use Rattle.byte_volume.specs.Reading.{ReadsPart}
 use Rattle.byte_volume.specs.Refusals.{IsAmong, MeetsRange}
 use Rattle.byte_volume.specs.Writing.{IsHead, IsOverlay, IsTail, LieWithin}
@@ -18,25 +19,25 @@ cancel x y size some few =
     omega (arith, below, subst (λ (k : ℕ). k / size ≡ x) none (div-mul-add x size 0 some))
 
 -- the bytes of a part, of a head and of a tail
-length-part : {D : Type 0} (state : D → DeviceState) (honest : D → Type 0) (size b from n : ℕ) (part : List ℕ) → ReadsPart state honest size b from n part → length part ≡ n
-length-part state honest size b from n part reads =
+length-part : {D : Type 0} (state : D → DeviceState) (honest : D → Type 0) (name : JournalId) (size b from n : ℕ) (part : List ℕ) → ReadsPart state honest name size b from n part → length part ≡ n
+length-part state honest name size b from n part reads =
     ap length reads.part_is ∙ length-take-le n (drop from reads.block) (omega (arith, reads.fits, reads.whole, length-drop from reads.block))
 
-length-head : {D : Type 0} (state : D → DeviceState) (honest : D → Type 0) (size at : ℕ) (head : List ℕ) → IsHead state honest size at head → length head ≡ at % size
-length-head state honest size at head (NoHead begins is) = ap length is ∙ sym begins
-length-head state honest size at head (Head some reads) = length-part state honest size (at / size) 0 (at % size) head reads
+length-head : {D : Type 0} (state : D → DeviceState) (honest : D → Type 0) (name : JournalId) (size at : ℕ) (head : List ℕ) → IsHead state honest name size at head → length head ≡ at % size
+length-head state honest name size at head (NoHead begins is) = ap length is ∙ sym begins
+length-head state honest name size at head (Head some reads) = length-part state honest name size (at / size) 0 (at % size) head reads
 
-length-tail : {D : Type 0} (state : D → DeviceState) (honest : D → Type 0) (size at : ℕ) (tail : List ℕ) → 0 < size → IsTail state honest size at tail → length tail < size
-length-tail state honest size at tail some (NoTail ends is) = omega (arith, some, ap length is)
-length-tail state honest size at tail some (Tail within reads) =
-    omega (arith, some, within, length-part state honest size (at / size) (at % size) (size - at % size) tail reads)
+length-tail : {D : Type 0} (state : D → DeviceState) (honest : D → Type 0) (name : JournalId) (size at : ℕ) (tail : List ℕ) → 0 < size → IsTail state honest name size at tail → length tail < size
+length-tail state honest name size at tail some (NoTail ends is) = omega (arith, some, ap length is)
+length-tail state honest name size at tail some (Tail within reads) =
+    omega (arith, some, within, length-part state honest name size (at / size) (at % size) (size - at % size) tail reads)
 
 -- whole blocks with the range end within a block after it
-pub length-overlay : {D : Type 0} (state : D → DeviceState) (honest : D → Type 0) (size offset : ℕ) (bytes whole : List ℕ) → 0 < size →
-    IsOverlay state honest size offset bytes whole → offset / size * size + length whole < offset + length bytes + size
-length-overlay state honest size offset bytes whole some overlay =
-    let before = length-head state honest size offset overlay.head overlay.head_is in
-    let after = length-tail state honest size (offset + length bytes) overlay.tail some overlay.tail_is in
+pub length-overlay : {D : Type 0} (state : D → DeviceState) (honest : D → Type 0) (name : JournalId) (size offset : ℕ) (bytes whole : List ℕ) → 0 < size →
+    IsOverlay state honest name size offset bytes whole → offset / size * size + length whole < offset + length bytes + size
+length-overlay state honest name size offset bytes whole some overlay =
+    let before = length-head state honest name size offset overlay.head overlay.head_is in
+    let after = length-tail state honest name size (offset + length bytes) overlay.tail some overlay.tail_is in
     let all : length whole ≡ length (overlay.head ++ bytes) + length overlay.tail = ap length overlay.whole_is ∙ length-append (overlay.head ++ bytes) overlay.tail in
     omega (arith, before, after, all, length-append overlay.head bytes, div-add-mod' offset size)
 

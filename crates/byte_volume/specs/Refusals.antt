@@ -34,8 +34,10 @@ pub data CouldNotStart (D : Type 0) (capacity n : ℕ) (e : JournalError) : Type
   BySession : NotOpened D capacity n e → CouldNotStart D capacity n e
   ByNumber : e ≡ SequenceEnd → IsAtLast D → CouldNotStart D capacity n e
 
--- why handles that change blocks with P end early: none with so many credits, within the capacity, could be started; or a step was refused
+-- why handles that change blocks with P end early: there is no memory for a ticket; none with so many credits, within the capacity, could be
+-- started; or a step was refused
 pub data HandleRefused (D : Type 0) (capacity : ℕ) (P : ℕ → Type 0) (e : JournalError) : Type 0 where
+  NoPlace : e ≡ Memory → HandleRefused D capacity P e
   NotStarted : (credits : ℕ) → credits ≤ capacity → CouldNotStart D capacity credits e → HandleRefused D capacity P e
   OfStep : StepRefused D P e → HandleRefused D capacity P e
 
@@ -62,8 +64,10 @@ pub data TrimRefused (D : Type 0) (size capacity offset n : ℕ) (e : JournalErr
   PastEnd : 2 ^ 64 ≤ offset + n → e ≡ BadBlock → TrimRefused D size capacity offset n e
   OfHandle : HandleRefused D capacity (IsAmong (first_whole size offset) (whole_blocks size offset n)) e → TrimRefused D size capacity offset n e
 
--- why a revoke of this many blocks through one handle is refused: the numbers pass 2^64, no handle with so many credits could be started, or a step was refused
+-- why a revoke of this many blocks through one handle is refused: the numbers pass 2^64, there is no memory for its ticket, no handle with so
+-- many credits could be started, or a step was refused
 pub data RevokeRefused (D : Type 0) (capacity first count : ℕ) (e : JournalError) : Type 0 where
   PastEnd : 2 ^ 64 ≤ first + count → e ≡ BadBlock → RevokeRefused D capacity first count e
+  NoPlace : e ≡ Memory → RevokeRefused D capacity first count e
   NoHandle : CouldNotStart D capacity count e → RevokeRefused D capacity first count e
   AtStep : StepRefused D (IsAmong first count) e → RevokeRefused D capacity first count e

@@ -1,8 +1,10 @@
 -- What a write of a byte range does.
 use Rattle.std.specs.Prelude.{◌≡◌, ◌≤◌, ◌<◌, ◌+◌, ◌-◌, ◌*◌, ◌/◌, ◌%◌, ◌++◌, ℕ, zero, suc, List, [], ◌∷◌, length, take, drop}
 use Rattle.std.specs.Int.{div_ceil}
+use Rattle.std.specs.List.{AllByRecursion}
 use Rattle.block_device.specs.State.{DeviceState}
 use Rattle.journal_model.specs.declared.transaction.Step.{Step}
+use Rattle.handle.specs.Name.{JournalId}
 use Rattle.journal_world.specs.Front.{revoke_step, write_step}
 use Rattle.locked_journal.specs.Known.{TicketKnown}
 use Rattle.byte_volume.specs.Reading.{ReadsPart}
@@ -22,66 +24,116 @@ revoke_steps n first zero = []
 revoke_steps n first (suc k) = revoke_steps n first k ++ revoke_step n (first + k) ∷ []
 
 -- the bytes before byte `at` in its block
-pub data IsHead {D : Type 0} (state : D → DeviceState) (honest : D → Type 0) (size at : ℕ) (head : List ℕ) : Type 0 where
-  NoHead : at % size ≡ 0 → head ≡ [] → IsHead state honest size at head
-  Head : 0 < at % size → ReadsPart state honest size (at / size) 0 (at % size) head → IsHead state honest size at head
+pub data IsHead {D : Type 0} (state : D → DeviceState) (honest : D → Type 0) (name : JournalId) (size at : ℕ) (head : List ℕ) : Type 0 where
+  NoHead : at % size ≡ 0 → head ≡ [] → IsHead state honest name size at head
+  Head : 0 < at % size → ReadsPart state honest name size (at / size) 0 (at % size) head → IsHead state honest name size at head
 
 -- the bytes from byte `at` to the end of its block; none at a block boundary
-pub data IsTail {D : Type 0} (state : D → DeviceState) (honest : D → Type 0) (size at : ℕ) (tail : List ℕ) : Type 0 where
-  NoTail : at % size ≡ 0 → tail ≡ [] → IsTail state honest size at tail
-  Tail : 0 < at % size → ReadsPart state honest size (at / size) (at % size) (size - at % size) tail → IsTail state honest size at tail
+pub data IsTail {D : Type 0} (state : D → DeviceState) (honest : D → Type 0) (name : JournalId) (size at : ℕ) (tail : List ℕ) : Type 0 where
+  NoTail : at % size ≡ 0 → tail ≡ [] → IsTail state honest name size at tail
+  Tail : 0 < at % size → ReadsPart state honest name size (at / size) (at % size) (size - at % size) tail → IsTail state honest name size at tail
 
 -- a list grew by this head or tail
-pub record AddsHead {D : Type 0} (state : D → DeviceState) (honest : D → Type 0) (size at : ℕ) (old new : List ℕ) : Type 0 where
+pub record AddsHead {D : Type 0} (state : D → DeviceState) (honest : D → Type 0) (name : JournalId) (size at : ℕ) (old new : List ℕ) : Type 0 where
   pub head : List ℕ
-  pub head_is : IsHead state honest size at head
+  pub head_is : IsHead state honest name size at head
   pub added : new ≡ old ++ head
 
-pub record AddsTail {D : Type 0} (state : D → DeviceState) (honest : D → Type 0) (size at : ℕ) (old new : List ℕ) : Type 0 where
+pub record AddsTail {D : Type 0} (state : D → DeviceState) (honest : D → Type 0) (name : JournalId) (size at : ℕ) (old new : List ℕ) : Type 0 where
   pub tail : List ℕ
-  pub tail_is : IsTail state honest size at tail
+  pub tail_is : IsTail state honest name size at tail
   pub added : new ≡ old ++ tail
 
 -- whole blocks: these bytes from byte `offset` on, the head before them and the tail after them
-pub record IsOverlay {D : Type 0} (state : D → DeviceState) (honest : D → Type 0) (size offset : ℕ) (bytes whole : List ℕ) : Type 0 where
+pub record IsOverlay {D : Type 0} (state : D → DeviceState) (honest : D → Type 0) (name : JournalId) (size offset : ℕ) (bytes whole : List ℕ) : Type 0 where
   pub head : List ℕ
   pub tail : List ℕ
-  pub head_is : IsHead state honest size offset head
-  pub tail_is : IsTail state honest size (offset + length bytes) tail
+  pub head_is : IsHead state honest name size offset head
+  pub tail_is : IsTail state honest name size (offset + length bytes) tail
   pub whole_is : whole ≡ head ++ bytes ++ tail
 
+-- the transactions of these tickets' handles have at most this number
+abbrev pub AreNoted : ℕ → List TicketKnown → Type 0
+AreNoted upto tickets = AllByRecursion (λ (t : TicketKnown). t.ticket.tid ≤ upto) tickets
+
+-- a list grew by the ticket of a handle with P, of a transaction up to this number
+pub record AddsTicket (P : TicketKnown → Type 0) (upto : ℕ) (old new : List TicketKnown) : Type 0 where
+  pub ticket : TicketKnown
+  pub its : P ticket
+  pub noted : ticket.ticket.tid ≤ upto
+  pub added : new ≡ old ++ ticket ∷ []
+
+-- it grew so, or stayed
+pub data MayAddTicket (P : TicketKnown → Type 0) (upto : ℕ) (old new : List TicketKnown) : Type 0 where
+  NoTicket : new ≡ old → MayAddTicket P upto old new
+  OneTicket : AddsTicket P upto old new → MayAddTicket P upto old new
+
+-- a handle's steps grew by the first of these, at most n
+pub record AddsFirst (steps : ℕ → List Step) (n : ℕ) (old new : List Step) : Type 0 where
+  pub count : ℕ
+  pub few : count ≤ n
+  pub added : new ≡ old ++ steps count
+
+-- one handle wrote the first of these whole blocks from block `first` on, in order, and nothing else
+pub record WritesFirst (first size : ℕ) (whole : List ℕ) (ticket : TicketKnown) : Type 0 where
+  pub blocks : ℕ
+  pub few : blocks ≤ length whole / size
+  pub steps_are : ticket.steps ≡ write_steps ticket.ticket.handle first size whole blocks
+
+-- one handle revoked the first of this many blocks from block `first` on, in order, and did nothing else
+pub record RevokesFirst (first count : ℕ) (ticket : TicketKnown) : Type 0 where
+  pub blocks : ℕ
+  pub few : blocks ≤ count
+  pub steps_are : ticket.steps ≡ revoke_steps ticket.ticket.handle first blocks
+
 -- one handle wrote these bytes from byte `offset` on, by writing exactly the whole blocks with them, in order
-pub record WritesRange {D : Type 0} (state : D → DeviceState) (honest : D → Type 0) (size offset : ℕ) (bytes : List ℕ) (ticket : TicketKnown) : Type 0 where
+pub record WritesRange {D : Type 0} (state : D → DeviceState) (honest : D → Type 0) (name : JournalId) (size offset : ℕ) (bytes : List ℕ) (ticket : TicketKnown) : Type 0 where
   pub whole : List ℕ
-  pub overlay : IsOverlay state honest size offset bytes whole
+  pub overlay : IsOverlay state honest name size offset bytes whole
   pub steps_are : ticket.steps ≡ write_steps ticket.ticket.handle (offset / size) size whole (length whole / size)
 
--- one handle wrote them, in a transaction up to this number
-pub record WritesOnce {D : Type 0} (state : D → DeviceState) (honest : D → Type 0) (size offset : ℕ) (bytes : List ℕ) (upto : ℕ) : Type 0 where
-  pub ticket : TicketKnown
-  pub wrote : WritesRange state honest size offset bytes ticket
-  pub noted : ticket.ticket.tid ≤ upto
+-- one handle wrote the first of these blocks
+pub record BeginsRange {D : Type 0} (state : D → DeviceState) (honest : D → Type 0) (name : JournalId) (size offset : ℕ) (bytes : List ℕ) (ticket : TicketKnown) : Type 0 where
+  pub whole : List ℕ
+  pub overlay : IsOverlay state honest name size offset bytes whole
+  pub begins : WritesFirst (offset / size) size whole ticket
 
--- handles wrote these bytes from byte `offset` on, a piece each, in order, in transactions up to this number
-pub data WritesPieces {D : Type 0} (state : D → DeviceState) (honest : D → Type 0) (size offset upto : ℕ) : List ℕ → Type 0 where
-  NoByte : WritesPieces state honest size offset upto []
-  Further : (before piece bytes : List ℕ) → WritesPieces state honest size offset upto before →
-      WritesOnce state honest size (offset + length before) piece upto → bytes ≡ before ++ piece → WritesPieces state honest size offset upto bytes
+-- the handles of these tickets wrote these bytes from byte `offset` on, a piece each, in order
+pub data WritesPieces {D : Type 0} (state : D → DeviceState) (honest : D → Type 0) (name : JournalId) (size offset : ℕ) : List TicketKnown → List ℕ → Type 0 where
+  NoByte : WritesPieces state honest name size offset [] []
+  Further : (earlier : List TicketKnown) (ticket : TicketKnown) (tickets : List TicketKnown) (before piece bytes : List ℕ) →
+      WritesPieces state honest name size offset earlier before → WritesRange state honest name size (offset + length before) piece ticket →
+      tickets ≡ earlier ++ ticket ∷ [] → bytes ≡ before ++ piece → WritesPieces state honest name size offset tickets bytes
 
 -- n bytes from byte `offset` on lie in at most this many blocks
 abbrev pub LieWithin : ℕ → ℕ → ℕ → ℕ → Type 0
 LieWithin size offset n blocks = div_ceil (offset + n) size ≤ offset / size + blocks
 
--- handles wrote these bytes from byte `offset` on: a single one, if one handle has credits for their blocks
-pub record WritesAll {D : Type 0} (state : D → DeviceState) (honest : D → Type 0) (size capacity offset : ℕ) (bytes : List ℕ) (upto : ℕ) : Type 0 where
-  pub pieces : WritesPieces state honest size offset upto bytes
-  pub once : LieWithin size offset (length bytes) capacity → WritesOnce state honest size offset bytes upto
+-- the handles of these tickets wrote these bytes from byte `offset` on: a single one, if one handle has credits for their blocks
+pub record WritesAll {D : Type 0} (state : D → DeviceState) (honest : D → Type 0) (name : JournalId) (size capacity offset : ℕ) (bytes : List ℕ) (tickets : List TicketKnown) : Type 0 where
+  pub pieces : WritesPieces state honest name size offset tickets bytes
+  pub once : LieWithin size offset (length bytes) capacity → length tickets ≡ 1
 
--- handles revoked this many blocks from block `first` on, each block by one step, in order, in transactions up to this number
-pub data RevokesBlocks (first upto : ℕ) : ℕ → Type 0 where
-  NoBlock : RevokesBlocks first upto 0
-  Further : (n m k : ℕ) → (ticket : TicketKnown) → RevokesBlocks first upto n → ticket.steps ≡ revoke_steps ticket.ticket.handle (first + n) m →
-      ticket.ticket.tid ≤ upto → k ≡ n + m → RevokesBlocks first upto k
+-- what the handles of these tickets did of a write of these bytes from byte `offset` on that was refused: they wrote the first bytes, a piece
+-- each, in order; the last may have written only the first blocks of its piece
+pub data WritesSome {D : Type 0} (state : D → DeviceState) (honest : D → Type 0) (name : JournalId) (size offset : ℕ) (bytes : List ℕ) (tickets : List TicketKnown) : Type 0 where
+  WholePieces : (before after : List ℕ) → WritesPieces state honest name size offset tickets before → bytes ≡ before ++ after →
+      WritesSome state honest name size offset bytes tickets
+  PartOfPiece : (earlier : List TicketKnown) (ticket : TicketKnown) (before piece after : List ℕ) → WritesPieces state honest name size offset earlier before →
+      BeginsRange state honest name size (offset + length before) piece ticket → tickets ≡ earlier ++ ticket ∷ [] → bytes ≡ before ++ piece ++ after →
+      WritesSome state honest name size offset bytes tickets
+
+-- the handles of these tickets revoked this many blocks from block `first` on, each block by one step, in order
+pub data RevokesBlocks (first : ℕ) : List TicketKnown → ℕ → Type 0 where
+  NoBlock : RevokesBlocks first [] 0
+  Further : (earlier : List TicketKnown) (ticket : TicketKnown) (tickets : List TicketKnown) (n m k : ℕ) → RevokesBlocks first earlier n →
+      ticket.steps ≡ revoke_steps ticket.ticket.handle (first + n) m → tickets ≡ earlier ++ ticket ∷ [] → k ≡ n + m → RevokesBlocks first tickets k
+
+-- they revoked the first of this many blocks
+pub record RevokesSome (first blocks : ℕ) (tickets : List TicketKnown) : Type 0 where
+  pub count : ℕ
+  pub few : count ≤ blocks
+  pub revoked : RevokesBlocks first tickets count
 
 -- the first block that begins at or after byte `offset`, and how many blocks lie whole in the n bytes from there on
 abbrev pub first_whole : ℕ → ℕ → ℕ

@@ -20,7 +20,7 @@ pub fn numbers_left<J: JournalName, D: Device, R: Record, G: Gate, W: Wait>(
     rt: &W,
     session: &Session<'_, J, D, R, G>,
 ) -> u64
-    ensures { HasLeft D result }
+    ensures { HasLeft D.state D.honest J.name result }
 {
     u64::from(LAST_TAKEN.saturating_sub(session.last_joined(rt).0))
 }

@@ -19,7 +19,7 @@ fn read_block<J: JournalName, D: Device, R: Record, G: Gate, W: Wait>(
     into: &mut [u8],
 ) -> Result<(), JournalError>
     requires { length into.old ≡ J.name.shape.block_size }
-    ensures reads { OnOk result (ReadsBlock D.state D.honest block into.new) }
+    ensures reads { OnOk result (ReadsBlock D.state D.honest J.name block into.new) }
     ensures err { IfErr result (BlockRefused D.state block) }
     ensures length { length into.new ≡ length into.old }
 {
@@ -47,7 +47,7 @@ pub(crate) fn read_part<J: JournalName, D: Device, R: Record, G: Gate, W: Wait>(
 ) -> Result<(), JournalError>
     requires room { length room.old ≡ J.name.shape.block_size }
     requires fits { from + count ≤ J.name.shape.block_size }
-    ensures adds { OnOk result (AddsPart D.state D.honest J.name.shape.block_size block from count list.old.items list.new.items) }
+    ensures adds { OnOk result (AddsPart D.state D.honest J.name J.name.shape.block_size block from count list.old.items list.new.items) }
     ensures length { length room.new ≡ length room.old }
     ensures err { IfErr result (PartRefused D.state block) }
 {
@@ -68,7 +68,7 @@ fn read_on<J: JournalName, D: Device, R: Record, G: Gate, W: Wait>(
     requires room { length room.old ≡ J.name.shape.block_size }
     requires some { 0 < length into.old }
     ensures some { IfOk result (λ n. (0 < n) × (n ≤ length into.old)) }
-    ensures part { IfOk result (λ n. ReadsPart D.state D.honest J.name.shape.block_size (at / J.name.shape.block_size) (at % J.name.shape.block_size) n (take n into.new)) }
+    ensures part { IfOk result (λ n. ReadsPart D.state D.honest J.name J.name.shape.block_size (at / J.name.shape.block_size) (at % J.name.shape.block_size) n (take n into.new)) }
     ensures length { (length into.new ≡ length into.old) × (length room.new ≡ length room.old) }
     ensures err { IfErr result (BlockRefused D.state (at / J.name.shape.block_size)) }
 {
@@ -97,7 +97,7 @@ pub fn read_range<J: JournalName, D: Device, R: Record, G: Gate, W: Wait>(
     offset: u64,
     into: &mut [u8],
 ) -> Result<(), JournalError>
-    ensures reads { OnOk result (ReadsRange D.state D.honest J.name.shape.block_size offset into.new) }
+    ensures reads { OnOk result (ReadsRange D.state D.honest J.name J.name.shape.block_size offset into.new) }
     ensures length { length into.new ≡ length into.old }
     ensures err { IfErr result (RangeRefused D.state offset (length into.old)) }
 {
@@ -118,7 +118,7 @@ fn read_all<J: JournalName, D: Device, R: Record, G: Gate, W: Wait>(
 ) -> Result<(), JournalError>
     requires room { length room.old ≡ J.name.shape.block_size }
     requires fits { offset + length into.old < 2 ^ 64 }
-    ensures reads { OnOk result (ReadsRange D.state D.honest J.name.shape.block_size offset into.new) }
+    ensures reads { OnOk result (ReadsRange D.state D.honest J.name J.name.shape.block_size offset into.new) }
     ensures length { length into.new ≡ length into.old }
     ensures err { IfErr result (RangeRefused D.state offset (length into.old)) }
 {

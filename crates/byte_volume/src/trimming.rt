@@ -1,11 +1,12 @@
 //! Revokes the whole blocks of a byte range.
-ghost use Rattle.std.specs.Prelude.{◌≡◌, ◌≤◌, ◌<◌, ◌+◌, ◌^◌, ◌++◌, IfErr, IfOk, OnOk};
+ghost use Rattle.std.specs.Prelude.{◌≡◌, ◌≤◌, ◌<◌, ◌+◌, ◌^◌, ◌++◌, [], IfErr, OnErr, OnOk};
 ghost use Rattle.byte_volume.specs.Numbers.{last_taken};
 ghost use Rattle.byte_volume.specs.Refusals.{HandleRefused, IsAmong, RevokeRefused, StepRefused, TrimRefused};
-ghost use Rattle.byte_volume.specs.Writing.{RevokesBlocks, first_whole, revoke_steps, whole_blocks};
+ghost use Rattle.byte_volume.specs.Writing.{AddsFirst, AddsTicket, AreNoted, MayAddTicket, RevokesBlocks, RevokesFirst, RevokesSome, first_whole, revoke_steps, whole_blocks};
 
 use crate::numbers::start;
 use crate::stopped::Stopped;
+use crate::tickets::Tickets;
 use block_device::Device;
 use journal_model::{BlockNo, JournalError};
 use journal_workers::Gate;
@@ -14,48 +15,50 @@ use std::sync::Wait;
 use volume_service::Session;
 
 /// Revokes exactly the blocks that lie whole in a byte range, and writes nothing. A block reads as zeros until its revoke is finished, then
-/// as home has it.
+/// as home has it. `tickets` has those of its handles afterwards, and no others.
 ///
 /// # Errors
 ///
-/// Those of `revoke_blocks`, except `TooMany`. Handles that revoked the first blocks have stopped, and are noted.
+/// Those of `revoke_blocks`, except `TooMany`. Handles that revoked the first blocks have stopped, and are noted; `tickets` has theirs.
 pub fn trim_range<J: JournalName, D: Device, R: Record, G: Gate, W: Wait>(
     rt: &W,
     session: &mut Session<'_, J, D, R, G>,
     offset: u64,
     count: u64,
     stopped: &mut Stopped,
+    tickets: &mut Tickets<J, R>,
 ) -> Result<(), JournalError>
-    ensures blocks { OnOk result (RevokesBlocks (first_whole J.name.shape.block_size offset) stopped.new (whole_blocks J.name.shape.block_size offset count)) }
+    ensures blocks { OnOk result (RevokesBlocks (first_whole J.name.shape.block_size offset) tickets.new (whole_blocks J.name.shape.block_size offset count)) }
+    ensures left { OnErr result (RevokesSome (first_whole J.name.shape.block_size offset) (whole_blocks J.name.shape.block_size offset count) tickets.new) }
+    ensures noted { AreNoted stopped.new tickets.new }
     ensures kept { stopped.old ≤ stopped.new }
     ensures taken { stopped.old ≤ last_taken → stopped.new ≤ last_taken }
     ensures err { IfErr result (TrimRefused D J.name.shape.block_size J.name.capacity offset count) }
 {
+    tickets.list.clear();
     let Some(end) = offset.checked_add(count) else {
         return Err(JournalError::BadBlock);
     };
     let size = session.block_size() as u64;
     let first = offset.div_ceil(size);
-    revoke_pieces(
-        rt,
-        session,
-        first,
-        (end / size).saturating_sub(first),
-        stopped,
-    )
+    let blocks = (end / size).saturating_sub(first);
+    revoke_pieces(rt, session, first, blocks, stopped, &mut tickets.list)
 }
 
 /// Revokes this many blocks from block `first` on, through one or more handles, in order.
-#[tactic(auto, using(crate::proofs::Revokes::no_block))]
 fn revoke_pieces<J: JournalName, D: Device, R: Record, G: Gate, W: Wait>(
     rt: &W,
     session: &mut Session<'_, J, D, R, G>,
     first: u64,
     blocks: u64,
     stopped: &mut Stopped,
+    tickets: &mut Vec<SharedTicket<J, R>>,
 ) -> Result<(), JournalError>
     requires fits { first + blocks < 2 ^ 64 }
-    ensures blocks { OnOk result (RevokesBlocks first stopped.new blocks) }
+    requires empty { tickets.old.items ≡ [] }
+    ensures blocks { OnOk result (RevokesBlocks first tickets.new.items blocks) }
+    ensures left { OnErr result (RevokesSome first blocks tickets.new.items) }
+    ensures noted { AreNoted stopped.new tickets.new.items }
     ensures kept { stopped.old ≤ stopped.new }
     ensures taken { stopped.old ≤ last_taken → stopped.new ≤ last_taken }
     ensures err { IfErr result (HandleRefused D J.name.capacity (IsAmong first blocks)) }
@@ -63,27 +66,50 @@ fn revoke_pieces<J: JournalName, D: Device, R: Record, G: Gate, W: Wait>(
     let mut done = 0;
     while done < blocks {
         let some = session.capacity().min(blocks - done);
-        let _ticket = revoke_blocks(rt, session, first + done, some, stopped)?;
+        revoke_once(rt, session, first + done, some, stopped, tickets)?;
         done += some;
     }
     Ok(())
 }
 
-/// Revokes this many blocks from block `first` on through one handle, which is stopped and noted even if a revoke is refused.
+/// Revokes this many blocks from block `first` on through one handle, which is stopped and noted even if a revoke is refused. `tickets` has
+/// its ticket afterwards, and no other.
 ///
 /// # Errors
 ///
 /// `TooMany`: one handle cannot have so many credits. `BadBlock`: home has no such block, or the numbers pass 2^64. `Aborted`: a device
-/// failure. `SequenceEnd`: no number is left that a later opening takes. `Memory`. The handle may have revoked the first blocks.
+/// failure. `SequenceEnd`: no number is left that a later opening takes. `Memory`. The handle may have revoked the first blocks; `tickets`
+/// then has its ticket.
 pub fn revoke_blocks<J: JournalName, D: Device, R: Record, G: Gate, W: Wait>(
     rt: &W,
     session: &mut Session<'_, J, D, R, G>,
     first: u64,
     count: u64,
     stopped: &mut Stopped,
-) -> Result<SharedTicket<J, R>, JournalError>
-    ensures steps { IfOk result (λ ticket. ticket.steps ≡ revoke_steps ticket.ticket.handle first count) }
-    ensures noted { IfOk result (λ ticket. ticket.ticket.tid ≤ stopped.new) }
+    tickets: &mut Tickets<J, R>,
+) -> Result<(), JournalError>
+    ensures steps { OnOk result (AddsTicket (λ ticket. ticket.steps ≡ revoke_steps ticket.ticket.handle first count) stopped.new [] tickets.new) }
+    ensures left { OnErr result (MayAddTicket (RevokesFirst first count) stopped.new [] tickets.new) }
+    ensures kept { stopped.old ≤ stopped.new }
+    ensures taken { stopped.old ≤ last_taken → stopped.new ≤ last_taken }
+    ensures err { IfErr result (RevokeRefused D J.name.capacity first count) }
+{
+    tickets.list.clear();
+    revoke_once(rt, session, first, count, stopped, &mut tickets.list)
+}
+
+/// As `revoke_blocks`, and adds the ticket to a list. Room for it is made first: nothing fails between the handle's start and its stop but
+/// its revokes.
+fn revoke_once<J: JournalName, D: Device, R: Record, G: Gate, W: Wait>(
+    rt: &W,
+    session: &mut Session<'_, J, D, R, G>,
+    first: u64,
+    count: u64,
+    stopped: &mut Stopped,
+    tickets: &mut Vec<SharedTicket<J, R>>,
+) -> Result<(), JournalError>
+    ensures steps { OnOk result (AddsTicket (λ ticket. ticket.steps ≡ revoke_steps ticket.ticket.handle first count) stopped.new tickets.old.items tickets.new.items) }
+    ensures left { OnErr result (MayAddTicket (RevokesFirst first count) stopped.new tickets.old.items tickets.new.items) }
     ensures kept { stopped.old ≤ stopped.new }
     ensures taken { stopped.old ≤ last_taken → stopped.new ≤ last_taken }
     ensures err { IfErr result (RevokeRefused D J.name.capacity first count) }
@@ -91,14 +117,13 @@ pub fn revoke_blocks<J: JournalName, D: Device, R: Record, G: Gate, W: Wait>(
     if first.checked_add(count).is_none() {
         return Err(JournalError::BadBlock);
     }
+    tickets.try_reserve(1)?;
     let mut handle = start(rt, session, count)?;
     stopped.register(handle.tid());
     let revoked = revoke_all(rt, session, &mut handle, first, count);
     let ticket = session.stop(rt, handle);
-    match revoked {
-        Ok(()) => Ok(ticket),
-        Err(e) => Err(e),
-    }
+    tickets.push_reserved(ticket);
+    revoked
 }
 
 /// Revokes blocks through a handle.
@@ -111,9 +136,10 @@ fn revoke_all<'s, J: JournalName, D: Device, R: Record, G: Gate, W: Wait>(
 ) -> Result<(), JournalError>
     requires fits { first + count < 2 ^ 64 }
     requires credits { count ≤ handle.old.handle.left }
-    ensures number { OnOk result (handle.new.handle.number ≡ handle.old.handle.number) }
-    ensures tid { OnOk result (handle.new.handle.tid ≡ handle.old.handle.tid) }
+    ensures number { handle.new.handle.number ≡ handle.old.handle.number }
+    ensures tid { handle.new.handle.tid ≡ handle.old.handle.tid }
     ensures steps { OnOk result (handle.new.steps ≡ handle.old.steps ++ revoke_steps handle.old.handle.number first count) }
+    ensures left { OnErr result (AddsFirst (revoke_steps handle.old.handle.number first) count handle.old.steps handle.new.steps) }
     ensures err { IfErr result (StepRefused D (IsAmong first count)) }
 {
     for k in 0..count {

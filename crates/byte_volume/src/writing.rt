@@ -1,12 +1,13 @@
 //! Cuts a write of a byte range into handles, and keeps the rest of its first and last block.
-ghost use Rattle.std.specs.Prelude.{◌≡◌, ◌≤◌, ◌<◌, ◌+◌, ◌-◌, ◌*◌, ◌/◌, ◌%◌, ◌^◌, ◌++◌, true, false, length, min, replicate, IfErr, IfOk, OnOk};
+ghost use Rattle.std.specs.Prelude.{◌≡◌, ◌≤◌, ◌<◌, ◌+◌, ◌-◌, ◌*◌, ◌/◌, ◌%◌, ◌^◌, ◌++◌, true, false, [], length, min, replicate, IfErr, IfOk, OnErr, OnOk};
 ghost use Rattle.byte_volume.specs.Numbers.{last_taken};
 ghost use Rattle.byte_volume.specs.Refusals.{CutRefused, HandleRefused, IsAmong, StepRefused, WriteRefused};
-ghost use Rattle.byte_volume.specs.Writing.{AddsHead, AddsTail, IsOverlay, LieWithin, WritesAll, WritesOnce, WritesPieces, WritesRange, write_steps};
+ghost use Rattle.byte_volume.specs.Writing.{AddsFirst, AddsHead, AddsTail, AddsTicket, AreNoted, BeginsRange, IsOverlay, LieWithin, MayAddTicket, WritesAll, WritesFirst, WritesPieces, WritesRange, WritesSome, write_steps};
 
 use crate::numbers::start;
 use crate::reading::read_part;
 use crate::stopped::Stopped;
+use crate::tickets::Tickets;
 use block_device::Device;
 use journal_model::{BlockNo, JournalError};
 use journal_workers::Gate;
@@ -17,14 +18,13 @@ use volume_service::Session;
 
 /// Writes bytes from byte `offset` on. If one handle has credits for the range's blocks, it alone writes exactly these, each whole; the
 /// rest of the first and last stays as a read finds it. A longer range is written in pieces, in order, each by such a handle. Other clients
-/// may write a block between the read of its rest and the write.
+/// may write a block between the read of its rest and the write. `tickets` has those of the handles afterwards, and no others.
 ///
 /// # Errors
 ///
 /// `BadBlock`: home has no such block, or the range ends past 2^64. `Device`: the rest of a block could not be read. `Aborted`: a device
-/// failure. `SequenceEnd`: no number is left that a later opening takes. `Memory`. Handles that wrote the first pieces have stopped, and are noted. So has the refused one, if it was
-/// started: it may have written the first blocks of its piece.
-#[tactic(auto, using(crate::proofs::Pieces::not_within))]
+/// failure. `SequenceEnd`: no number is left that a later opening takes. `Memory`. Handles that wrote the first pieces have stopped, and are
+/// noted; `tickets` has theirs. So has the refused one, if it was started: it may have written the first blocks of its piece.
 pub fn write_range<J: JournalName, D: Device, R: Record, G: Gate, W: Wait>(
     rt: &W,
     alloc: Global,
@@ -32,12 +32,16 @@ pub fn write_range<J: JournalName, D: Device, R: Record, G: Gate, W: Wait>(
     offset: u64,
     bytes: &[u8],
     stopped: &mut Stopped,
+    tickets: &mut Tickets<J, R>,
 ) -> Result<(), JournalError>
-    ensures once { OnOk result (WritesAll D.state D.honest J.name.shape.block_size J.name.capacity offset bytes.now stopped.new) }
+    ensures once { OnOk result (WritesAll D.state D.honest J.name J.name.shape.block_size J.name.capacity offset bytes.now tickets.new) }
+    ensures left { OnErr result (WritesSome D.state D.honest J.name J.name.shape.block_size offset bytes.now tickets.new) }
+    ensures noted { AreNoted stopped.new tickets.new }
     ensures kept { stopped.old ≤ stopped.new }
     ensures taken { stopped.old ≤ last_taken → stopped.new ≤ last_taken }
     ensures err { IfErr result (WriteRefused D.state J.name.shape.block_size J.name.capacity offset (length bytes.now)) }
 {
+    tickets.list.clear();
     if offset.checked_add(bytes.len() as u64).is_none() {
         return Err(JournalError::BadBlock);
     }
@@ -47,11 +51,11 @@ pub fn write_range<J: JournalName, D: Device, R: Record, G: Gate, W: Wait>(
         bytes.len(),
         session.capacity(),
     ) {
-        let _ticket = write_once(rt, alloc, session, offset, bytes, stopped)?;
-        return Ok(());
+        let list = &mut tickets.list;
+        return write_once(rt, alloc, session, offset, bytes, stopped, list);
     }
-    write_pieces(rt, alloc, session, offset, bytes, stopped)?;
-    Ok(())
+    let list = &mut tickets.list;
+    write_pieces(rt, alloc, session, offset, bytes, stopped, list)
 }
 
 /// Whether these bytes lie in at most this many blocks.
@@ -66,7 +70,7 @@ fn lie_within(size: usize, offset: u64, count: usize, blocks: u64) -> bool
     past <= first || past - first <= blocks
 }
 
-/// Writes a byte range through one handle.
+/// Writes a byte range through one handle, and adds its ticket, even if a write is refused.
 fn write_once<J: JournalName, D: Device, R: Record, G: Gate, W: Wait>(
     rt: &W,
     alloc: Global,
@@ -74,11 +78,12 @@ fn write_once<J: JournalName, D: Device, R: Record, G: Gate, W: Wait>(
     offset: u64,
     bytes: &[u8],
     stopped: &mut Stopped,
-) -> Result<SharedTicket<J, R>, JournalError>
+    tickets: &mut Vec<SharedTicket<J, R>>,
+) -> Result<(), JournalError>
     requires fits { offset + length bytes.now < 2 ^ 64 }
     requires credits { LieWithin J.name.shape.block_size offset (length bytes.now) J.name.capacity }
-    ensures once { IfOk result (λ ticket. WritesRange D.state D.honest J.name.shape.block_size offset bytes.now ticket) }
-    ensures noted { IfOk result (λ ticket. ticket.ticket.tid ≤ stopped.new) }
+    ensures once { OnOk result (AddsTicket (WritesRange D.state D.honest J.name J.name.shape.block_size offset bytes.now) stopped.new tickets.old.items tickets.new.items) }
+    ensures left { OnErr result (MayAddTicket (BeginsRange D.state D.honest J.name J.name.shape.block_size offset bytes.now) stopped.new tickets.old.items tickets.new.items) }
     ensures kept { stopped.old ≤ stopped.new }
     ensures taken { stopped.old ≤ last_taken → stopped.new ≤ last_taken }
     ensures err { IfErr result (WriteRefused D.state J.name.shape.block_size J.name.capacity offset (length bytes.now)) }
@@ -86,10 +91,10 @@ fn write_once<J: JournalName, D: Device, R: Record, G: Gate, W: Wait>(
     let size = session.block_size() as u64;
     let end = offset + bytes.len() as u64;
     if offset % size == 0 && end % size == 0 {
-        return write_blocks(rt, session, offset / size, bytes, stopped);
+        return write_blocks(rt, session, offset / size, bytes, stopped, tickets);
     }
     let whole = overlay(rt, alloc, session, offset, bytes)?;
-    write_blocks(rt, session, offset / size, &whole, stopped)
+    write_blocks(rt, session, offset / size, &whole, stopped, tickets)
 }
 
 /// Whole blocks: these bytes, the rest of their first block before them and that of their last after them, as a read finds it.
@@ -101,7 +106,7 @@ fn overlay<J: JournalName, D: Device, R: Record, G: Gate, W: Wait>(
     bytes: &[u8],
 ) -> Result<Vec<u8>, JournalError>
     requires fits { offset + length bytes.now < 2 ^ 64 }
-    ensures overlay { IfOk result (λ whole. IsOverlay D.state D.honest J.name.shape.block_size offset bytes.now whole.items) }
+    ensures overlay { IfOk result (λ whole. IsOverlay D.state D.honest J.name J.name.shape.block_size offset bytes.now whole.items) }
     ensures err { IfErr result (WriteRefused D.state J.name.shape.block_size J.name.capacity offset (length bytes.now)) }
 {
     let mut whole = Vec::new(alloc);
@@ -120,7 +125,7 @@ fn add_head<J: JournalName, D: Device, R: Record, G: Gate, W: Wait>(
     at: u64,
     list: &mut Vec<u8>,
 ) -> Result<(), JournalError>
-    ensures adds { OnOk result (AddsHead D.state D.honest J.name.shape.block_size at list.old.items list.new.items) }
+    ensures adds { OnOk result (AddsHead D.state D.honest J.name J.name.shape.block_size at list.old.items list.new.items) }
     ensures err { IfErr result (CutRefused D.state J.name.shape.block_size at) }
 {
     let size = session.block_size();
@@ -141,7 +146,7 @@ fn add_tail<J: JournalName, D: Device, R: Record, G: Gate, W: Wait>(
     at: u64,
     list: &mut Vec<u8>,
 ) -> Result<(), JournalError>
-    ensures adds { OnOk result (AddsTail D.state D.honest J.name.shape.block_size at list.old.items list.new.items) }
+    ensures adds { OnOk result (AddsTail D.state D.honest J.name J.name.shape.block_size at list.old.items list.new.items) }
     ensures err { IfErr result (CutRefused D.state J.name.shape.block_size at) }
 {
     let size = session.block_size();
@@ -162,32 +167,33 @@ fn add_tail<J: JournalName, D: Device, R: Record, G: Gate, W: Wait>(
     )
 }
 
-/// Writes whole blocks through one handle, which is stopped and noted even if a write is refused.
+/// Writes whole blocks through one handle, which is stopped and noted, and its ticket added, even if a write is refused. Room for the ticket
+/// is made first: nothing fails between the handle's start and its stop but its writes.
 fn write_blocks<J: JournalName, D: Device, R: Record, G: Gate, W: Wait>(
     rt: &W,
     session: &mut Session<'_, J, D, R, G>,
     first: u64,
     bytes: &[u8],
     stopped: &mut Stopped,
-) -> Result<SharedTicket<J, R>, JournalError>
+    tickets: &mut Vec<SharedTicket<J, R>>,
+) -> Result<(), JournalError>
     requires fits { first + length bytes.now / J.name.shape.block_size < 2 ^ 64 }
     requires credits { length bytes.now / J.name.shape.block_size ≤ J.name.capacity }
-    ensures steps { IfOk result (λ ticket. ticket.steps ≡ write_steps ticket.ticket.handle first J.name.shape.block_size bytes.now (length bytes.now / J.name.shape.block_size)) }
-    ensures noted { IfOk result (λ ticket. ticket.ticket.tid ≤ stopped.new) }
+    ensures steps { OnOk result (AddsTicket (λ ticket. ticket.steps ≡ write_steps ticket.ticket.handle first J.name.shape.block_size bytes.now (length bytes.now / J.name.shape.block_size)) stopped.new tickets.old.items tickets.new.items) }
+    ensures left { OnErr result (MayAddTicket (WritesFirst first J.name.shape.block_size bytes.now) stopped.new tickets.old.items tickets.new.items) }
     ensures kept { stopped.old ≤ stopped.new }
     ensures taken { stopped.old ≤ last_taken → stopped.new ≤ last_taken }
     ensures err { IfErr result (HandleRefused D J.name.capacity (IsAmong first (length bytes.now / J.name.shape.block_size))) }
 {
     let size = session.block_size();
     let blocks = (bytes.len() / size) as u64;
+    tickets.try_reserve(1)?;
     let mut handle = start(rt, session, blocks)?;
     stopped.register(handle.tid());
     let filled = fill(rt, session, &mut handle, first, bytes, size);
     let ticket = session.stop(rt, handle);
-    match filled {
-        Ok(()) => Ok(ticket),
-        Err(e) => Err(e),
-    }
+    tickets.push_reserved(ticket);
+    filled
 }
 
 /// Writes whole blocks through a handle.
@@ -203,9 +209,10 @@ fn fill<'s, J: JournalName, D: Device, R: Record, G: Gate, W: Wait>(
     requires block { size ≡ J.name.shape.block_size }
     requires fits { first + length bytes.now / size < 2 ^ 64 }
     requires credits { length bytes.now / size ≤ handle.old.handle.left }
-    ensures number { OnOk result (handle.new.handle.number ≡ handle.old.handle.number) }
-    ensures tid { OnOk result (handle.new.handle.tid ≡ handle.old.handle.tid) }
+    ensures number { handle.new.handle.number ≡ handle.old.handle.number }
+    ensures tid { handle.new.handle.tid ≡ handle.old.handle.tid }
     ensures steps { OnOk result (handle.new.steps ≡ handle.old.steps ++ write_steps handle.old.handle.number first size bytes.now (length bytes.now / size)) }
+    ensures left { OnErr result (AddsFirst (write_steps handle.old.handle.number first size bytes.now) (length bytes.now / size) handle.old.steps handle.new.steps) }
     ensures err { IfErr result (StepRefused D (IsAmong first (length bytes.now / size))) }
 {
     for k in 0..bytes.len() / size {
@@ -216,7 +223,6 @@ fn fill<'s, J: JournalName, D: Device, R: Record, G: Gate, W: Wait>(
 }
 
 /// Writes a byte range through one or more handles, in order.
-#[tactic(auto, using(crate::proofs::Pieces::no_byte, crate::proofs::Pieces::all_bytes))]
 fn write_pieces<J: JournalName, D: Device, R: Record, G: Gate, W: Wait>(
     rt: &W,
     alloc: Global,
@@ -224,9 +230,13 @@ fn write_pieces<J: JournalName, D: Device, R: Record, G: Gate, W: Wait>(
     offset: u64,
     bytes: &[u8],
     stopped: &mut Stopped,
+    tickets: &mut Vec<SharedTicket<J, R>>,
 ) -> Result<(), JournalError>
     requires fits { offset + length bytes.now < 2 ^ 64 }
-    ensures pieces { OnOk result (WritesPieces D.state D.honest J.name.shape.block_size offset stopped.new bytes.now) }
+    requires empty { tickets.old.items ≡ [] }
+    ensures pieces { OnOk result (WritesPieces D.state D.honest J.name J.name.shape.block_size offset tickets.new.items bytes.now) }
+    ensures left { OnErr result (WritesSome D.state D.honest J.name J.name.shape.block_size offset bytes.now tickets.new.items) }
+    ensures noted { AreNoted stopped.new tickets.new.items }
     ensures kept { stopped.old ≤ stopped.new }
     ensures taken { stopped.old ≤ last_taken → stopped.new ≤ last_taken }
     ensures err { IfErr result (WriteRefused D.state J.name.shape.block_size J.name.capacity offset (length bytes.now)) }
@@ -236,7 +246,15 @@ fn write_pieces<J: JournalName, D: Device, R: Record, G: Gate, W: Wait>(
         let at = offset + done as u64;
         let most = piece_length(session.block_size(), session.capacity(), at);
         let count = most.min(bytes.len() - done);
-        let _ticket = write_once(rt, alloc, session, at, &bytes[done..done + count], stopped)?;
+        write_once(
+            rt,
+            alloc,
+            session,
+            at,
+            &bytes[done..done + count],
+            stopped,
+            tickets,
+        )?;
         done += count;
     }
     Ok(())
@@ -261,7 +279,6 @@ fn piece_length(size: usize, capacity: u64, at: u64) -> usize
 /// # Errors
 ///
 /// Those of `write_range`.
-#[tactic(auto, using(crate::proofs::Pieces::zeros_not_within))]
 pub fn write_zeros<J: JournalName, D: Device, R: Record, G: Gate, W: Wait>(
     rt: &W,
     alloc: Global,
@@ -269,21 +286,25 @@ pub fn write_zeros<J: JournalName, D: Device, R: Record, G: Gate, W: Wait>(
     offset: u64,
     count: usize,
     stopped: &mut Stopped,
+    tickets: &mut Tickets<J, R>,
 ) -> Result<(), JournalError>
-    ensures once { OnOk result (WritesAll D.state D.honest J.name.shape.block_size J.name.capacity offset (replicate count 0) stopped.new) }
+    ensures once { OnOk result (WritesAll D.state D.honest J.name J.name.shape.block_size J.name.capacity offset (replicate count 0) tickets.new) }
+    ensures left { OnErr result (WritesSome D.state D.honest J.name J.name.shape.block_size offset (replicate count 0) tickets.new) }
+    ensures noted { AreNoted stopped.new tickets.new }
     ensures kept { stopped.old ≤ stopped.new }
     ensures taken { stopped.old ≤ last_taken → stopped.new ≤ last_taken }
     ensures err { IfErr result (WriteRefused D.state J.name.shape.block_size J.name.capacity offset count) }
 {
+    tickets.list.clear();
     if offset.checked_add(count as u64).is_none() {
         return Err(JournalError::BadBlock);
     }
     if lie_within(session.block_size(), offset, count, session.capacity()) {
-        zero_once(rt, alloc, session, offset, count, stopped)?;
-        return Ok(());
+        let list = &mut tickets.list;
+        return zero_once(rt, alloc, session, offset, count, stopped, list);
     }
-    zero_pieces(rt, alloc, session, offset, count, stopped)?;
-    Ok(())
+    let list = &mut tickets.list;
+    zero_pieces(rt, alloc, session, offset, count, stopped, list)
 }
 
 /// Writes zeros through one handle.
@@ -294,21 +315,21 @@ fn zero_once<J: JournalName, D: Device, R: Record, G: Gate, W: Wait>(
     offset: u64,
     count: usize,
     stopped: &mut Stopped,
+    tickets: &mut Vec<SharedTicket<J, R>>,
 ) -> Result<(), JournalError>
     requires fits { offset + count < 2 ^ 64 }
     requires credits { LieWithin J.name.shape.block_size offset count J.name.capacity }
-    ensures once { OnOk result (WritesOnce D.state D.honest J.name.shape.block_size offset (replicate count 0) stopped.new) }
+    ensures once { OnOk result (AddsTicket (WritesRange D.state D.honest J.name J.name.shape.block_size offset (replicate count 0)) stopped.new tickets.old.items tickets.new.items) }
+    ensures left { OnErr result (MayAddTicket (BeginsRange D.state D.honest J.name J.name.shape.block_size offset (replicate count 0)) stopped.new tickets.old.items tickets.new.items) }
     ensures kept { stopped.old ≤ stopped.new }
     ensures taken { stopped.old ≤ last_taken → stopped.new ≤ last_taken }
     ensures err { IfErr result (WriteRefused D.state J.name.shape.block_size J.name.capacity offset count) }
 {
     let zeros = vec![in alloc; 0u8; count]?;
-    let _ticket = write_once(rt, alloc, session, offset, &zeros, stopped)?;
-    Ok(())
+    write_once(rt, alloc, session, offset, &zeros, stopped, tickets)
 }
 
 /// Writes zeros through one or more handles, in order.
-#[tactic(auto, using(crate::proofs::Pieces::no_byte, crate::proofs::Pieces::more_zeros))]
 fn zero_pieces<J: JournalName, D: Device, R: Record, G: Gate, W: Wait>(
     rt: &W,
     alloc: Global,
@@ -316,9 +337,13 @@ fn zero_pieces<J: JournalName, D: Device, R: Record, G: Gate, W: Wait>(
     offset: u64,
     count: usize,
     stopped: &mut Stopped,
+    tickets: &mut Vec<SharedTicket<J, R>>,
 ) -> Result<(), JournalError>
     requires fits { offset + count < 2 ^ 64 }
-    ensures pieces { OnOk result (WritesPieces D.state D.honest J.name.shape.block_size offset stopped.new (replicate count 0)) }
+    requires empty { tickets.old.items ≡ [] }
+    ensures pieces { OnOk result (WritesPieces D.state D.honest J.name J.name.shape.block_size offset tickets.new.items (replicate count 0)) }
+    ensures left { OnErr result (WritesSome D.state D.honest J.name J.name.shape.block_size offset (replicate count 0) tickets.new.items) }
+    ensures noted { AreNoted stopped.new tickets.new.items }
     ensures kept { stopped.old ≤ stopped.new }
     ensures taken { stopped.old ≤ last_taken → stopped.new ≤ last_taken }
     ensures err { IfErr result (WriteRefused D.state J.name.shape.block_size J.name.capacity offset count) }
@@ -328,7 +353,7 @@ fn zero_pieces<J: JournalName, D: Device, R: Record, G: Gate, W: Wait>(
         let at = offset + done as u64;
         let most = piece_length(session.block_size(), session.capacity(), at);
         let some = most.min(count - done);
-        zero_once(rt, alloc, session, at, some, stopped)?;
+        zero_once(rt, alloc, session, at, some, stopped, tickets)?;
         done += some;
     }
     Ok(())

@@ -1,7 +1,7 @@
 //! The command `serve`: a log's volume as a block device, over the program's standard streams.
-ghost use Rattle.std.specs.Prelude.{◌≡◌, ℕ, IfOk};
+ghost use Rattle.std.specs.Prelude.{◌≡◌, IfOk};
 ghost use Rattle.commit_times.specs.Closed.{IsLeftClosed};
-ghost use Rattle.journal_model.specs.Disk.{Shape};
+ghost use Rattle.handle.specs.Name.{JournalId};
 ghost use Rattle.volume_service.specs.Ending.{IsEndedBy};
 
 use crate::telling::{FEW, say_left};
@@ -158,7 +158,7 @@ fn say_done<D: Drop, E: Write>(done: Done, left: D, err: &mut E) -> io::Result<R
 fn device_left<D: Device + Drop>(
     served: Served<D, Unrecorded>,
 ) -> Result<(Done, D), (D, JournalError)>
-    requires ended { (most : ℕ) × (measures : Shape) × IsEndedBy D.state D.honest most measures served.parts.device served.parts.sealed.transactions.items served.parts.committed served.closed }
+    requires ended { (name : JournalId) × IsEndedBy D.state D.honest name served.parts.device served.parts.sealed.transactions.items served.parts.committed served.closed }
     ensures { IfOk result (λ left. D.honest left.1 → IsLeftClosed (D.state left.1)) }
 {
     let Served {

@@ -4,6 +4,7 @@ ghost use Rattle.journal_model.specs.Transaction.{entries};
 ghost use Rattle.journal_world.specs.Front.{held, transactions};
 ghost use Rattle.journal_steps.specs.Legal.{KeepsLegal};
 ghost use Rattle.journal_sides.specs.Sides.{Reconciles};
+ghost use Rattle.locked_journal.specs.Begun.{ComesFrom};
 ghost use Rattle.locked_journal.specs.Own.{Confirms};
 ghost use Rattle.locked_journal.specs.Known.{own_of_ticket};
 
@@ -29,13 +30,15 @@ pub struct Exclusive<J: JournalName, D: Device, R: Record> {
 impl<J: JournalName, D: Device, R: Record> Model for Exclusive<J, D, R> {
     ghost use Rattle.std.specs.Prelude.{◌≡◌};
     ghost use Rattle.journal_steps.specs.Values.{JournalValue};
+    ghost use Rattle.locked_journal.specs.Begun.{ComesFrom};
     ghost use Rattle.locked_journal.specs.Locked.{IsHeld};
 
     ghost Value = { JournalValue D };
 
     ghost view = { λ s. s.journal };
 
-    ghost invariant = { λ s. IsHeld D.state J.name.capacity J.name.shape s.credits s.raiser s.journal × (s.recorded ≡ s.journal.journal.front) };
+    ghost invariant = { λ s. IsHeld D.state J.name.capacity J.name.shape s.credits s.raiser s.journal × (s.recorded ≡ s.journal.journal.front)
+        × ComesFrom D.state D.honest J.name s.journal };
 }
 
 impl<J: JournalName, D: Device, R: Record> Exclusive<J, D, R> {
@@ -105,6 +108,7 @@ impl<J: JournalName, D: Device, R: Record> Exclusive<J, D, R> {
         ensures reserved { result.journal.front.reserved ≡ 0 }
         ensures capacity { result.journal.front.capacity ≡ J.name.capacity }
         ensures shape { (D.state result.device).shape ≡ J.name.shape }
+        ensures comes { ComesFrom D.state D.honest J.name result }
     {
         let Exclusive {
             counters,

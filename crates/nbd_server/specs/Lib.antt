@@ -1,2 +1,4 @@
 pub mod Owing
+pub mod Causes
+pub mod Input
 pub mod Answers

@@ -1,9 +1,9 @@
 //! Reads requests in a task. Answers those that want no commit, or hands the answers on.
 use crate::answering::{answer, volume_bytes};
+use crate::asked::Asked;
 use crate::buffers::Buffers;
 use crate::done::Done;
 use crate::export::{Export, Volume};
-use crate::handshake::begin;
 use crate::replies::{Answer, Due, LONG_BYTES, Outlet};
 use block_device::Device;
 use byte_volume::Stopped;
@@ -22,11 +22,11 @@ pub(crate) struct Connection<'m, I: Read + Drop, O: Write + Drop> {
     pub(crate) alloc: Global,
     pub(crate) export: Export<'m>,
     pub(crate) input: BufReader<I>,
-    pub(crate) outlet: Outlet<'m, O>,
+    pub(crate) outlet: Outlet<'m, BufReader<I>, O>,
     /// The flusher's end of owed answers.
-    pub(crate) owed: Sender<Due>,
+    pub(crate) owed: Sender<Due<BufReader<I>>>,
     /// The sender's end of long answers.
-    pub(crate) long: Sender<Answer>,
+    pub(crate) long: Sender<Answer<BufReader<I>>>,
 }
 
 impl<I: Read + Drop, O: Write + Drop> Connection<'_, I, O> {
@@ -63,18 +63,21 @@ impl<I: Read + Drop, O: Write + Drop> Connection<'_, I, O> {
         let mut buffers = Buffers::new(self.alloc);
         for _ in rt.forever() {
             self.send_before_a_wait(rt, REQUEST_BYTES)?;
-            let Some(request) = next_request(&mut self.input)? else {
+            let Some(asked) = Asked::next(&mut self.input)? else {
                 return Ok(());
             };
+            if asked.request().command == DISCONNECT {
+                return Ok(());
+            }
             *requests = requests.saturating_add(1);
-            self.send_before(rt, &request)?;
+            self.send_before(rt, asked.request())?;
             let (alloc, export) = (self.alloc, self.export);
-            if is_long_read(&request) {
+            if is_long_read(asked.request()) {
                 self.outlet.out.lend(rt, &mut buffers.read);
             }
             let (input, buffers) = (&mut self.input, &mut buffers);
             let given = answer(
-                rt, alloc, session, &export, stopped, input, buffers, &request,
+                rt, alloc, session, &export, stopped, input, buffers, asked,
             )?;
             self.give(rt, given)?;
         }
@@ -120,7 +123,7 @@ impl<I: Read + Drop, O: Write + Drop> Connection<'_, I, O> {
     }
 
     /// Gives an answer, or hands it on: an owed one to the flusher, a long one to the sender.
-    fn give<W: Wait>(&mut self, rt: &W, answer: Answer) -> io::Result<()> {
+    fn give<W: Wait>(&mut self, rt: &W, answer: Answer<BufReader<I>>) -> io::Result<()> {
         if answer.is_long() {
             return hand_on(rt, &self.long, answer);
         }
@@ -142,21 +145,4 @@ fn hand_on<T: Drop, W: Wait>(rt: &W, to: &Sender<T>, answer: T) -> io::Result<()
 /// Whether a request wants so many bytes that its answer is long.
 fn is_long_read(request: &Request) -> bool {
     request.command == READ && request.length as usize >= LONG_BYTES
-}
-
-/// The next request; `None` if the client ended before it.
-///
-/// # Errors
-///
-/// `UnexpectedEof`: the client ended within it. `InvalidData`: these bytes are no request.
-fn next_request<I: Read>(input: &mut I) -> io::Result<Option<Request>> {
-    let mut bytes = [0; REQUEST_BYTES];
-    if !begin(input, &mut bytes)? {
-        return Ok(None);
-    }
-    match Request::read(&bytes) {
-        Some(request) if request.command == DISCONNECT => Ok(None),
-        Some(request) => Ok(Some(request)),
-        None => Err(io::Error::from(ErrorKind::InvalidData)),
-    }
 }

@@ -3,7 +3,7 @@ ghost use Rattle.std.specs.Prelude.{◌≡◌, ◌++◌, [], ◌∷◌, OnOk};
 ghost use Rattle.nbd_server.specs.Answers.{Releases};
 
 use crate::done::{Committed, Done};
-use crate::replies::{Answer, Due, Outlet, Reply, error_of};
+use crate::replies::{Answer, Due, Outlet, Reply};
 use block_device::Device;
 use byte_volume::Committed as Receipt;
 use crossbeam_channel::Receiver;
@@ -16,16 +16,16 @@ use std::sync::Wait;
 use volume_service::Session;
 
 #[derive(Drop)]
-pub(crate) struct Flusher<'m, O: Write + Drop> {
+pub(crate) struct Flusher<'m, I: Drop, O: Write + Drop> {
     pub(crate) alloc: Global,
-    pub(crate) outlet: Outlet<'m, O>,
+    pub(crate) outlet: Outlet<'m, I, O>,
     /// The owed answers.
-    pub(crate) owed: Receiver<Due>,
+    pub(crate) owed: Receiver<Due<I>>,
     /// How many answers are recorded.
     pub(crate) keep: usize,
 }
 
-impl<O: Write + Drop> Flusher<'_, O> {
+impl<I: Drop, O: Write + Drop> Flusher<'_, I, O> {
     /// Gives the owed answers, in order, until no more can come.
     pub(crate) fn run<J: JournalName, D: Device, R: Record, W: Wait>(
         self,
@@ -56,19 +56,20 @@ impl<O: Write + Drop> Flusher<'_, O> {
             let Ok(due) = self.owed.recv(rt) else {
                 break;
             };
-            if reached.0 < due.upto().0 {
+            let (cookie, upto) = (due.cookie(), due.upto());
+            if reached.0 < upto.0 {
                 self.send(rt, session)?;
             }
-            let (reply, is_committed) = release(rt, session, &due);
+            let (reply, is_committed) = release(rt, session, due);
             if is_committed {
-                reached = due.upto();
+                reached = upto;
             }
             self.outlet.give(rt, Answer::Now(reply))?;
             if self.owed.is_empty() {
                 self.send(rt, session)?;
             }
             if is_committed && committed.len() < self.keep {
-                register(committed, &due)?;
+                register(committed, Committed { cookie, upto })?;
             }
         }
         Ok(())
@@ -81,19 +82,15 @@ impl<O: Write + Drop> Flusher<'_, O> {
         session: &mut Session<'_, J, D, R>,
     ) -> io::Result<()> {
         self.outlet.send(rt)?;
-        session.keep_room(rt);
+        session.room().keep(rt);
         Ok(())
     }
 }
 
 /// Adds this answer to the recorded ones.
-fn register(committed: &mut Vec<Committed>, due: &Due) -> io::Result<()>
-    ensures { OnOk result (committed.new.items ≡ committed.old.items ++ record { cookie = due.now.cookie; upto = due.now.upto } ∷ []) }
+fn register(committed: &mut Vec<Committed>, answer: Committed) -> io::Result<()>
+    ensures { OnOk result (committed.new.items ≡ committed.old.items ++ answer ∷ []) }
 {
-    let answer = Committed {
-        cookie: due.cookie(),
-        upto: due.upto(),
-    };
     match committed.push(answer) {
         Ok(()) => Ok(()),
         Err(_) => Err(io::Error::from(ErrorKind::OutOfMemory)),
@@ -101,15 +98,15 @@ fn register(committed: &mut Vec<Committed>, due: &Due) -> io::Result<()>
 }
 
 /// Waits for the commit of an owed answer. Returns the answer, and whether it is a success, which needs a receipt.
-pub fn release<J: JournalName, D: Device, R: Record, W: Wait>(
+pub fn release<J: JournalName, D: Device, R: Record, I, W: Wait>(
     rt: &W,
     session: &mut Session<'_, J, D, R>,
-    due: &Due,
-) -> (Reply, bool)
-    ensures { Releases due.now session.new.seat.seen result.0 result.1 }
+    due: Due<I>,
+) -> (Reply<I>, bool)
+    ensures { Releases D due session.new.seat.seen result.0 result.1 }
 {
     match Receipt::wait_for(rt, session, due.upto()) {
         Ok(receipt) => (Reply::committed(due, &receipt), true),
-        Err(e) => (Reply::not_committed(due, error_of(e)), false),
+        Err(e) => (Reply::not_committed(due, e), false),
     }
 }

@@ -1,4 +1,8 @@
 //! The handshake before the first request.
+ghost use Rattle.std.specs.Prelude.{◌≡◌, ◌<◌, true, length, IfOk, IfSome, OnOk};
+ghost use Rattle.std.specs.Io.KnownBytes.{Consumes};
+ghost use Rattle.nbd_server.specs.Input.{TakesData, TakesHandshake, TakesOption, TakesOptions, TakesSome};
+
 use crate::export::Volume;
 use byteorder::{BigEndian, ByteOrder};
 use nbd_protocol::numbers::{
@@ -34,10 +38,10 @@ enum Next {
 /// # Errors
 ///
 /// `UnexpectedEof`: the input ends within it.
-pub(crate) fn begin<I: Read>(input: &mut I, into: &mut [u8]) -> io::Result<bool> {
-    if into.is_empty() {
-        return Ok(true);
-    }
+pub(crate) fn begin<I: Read>(input: &mut I, into: &mut [u8]) -> io::Result<bool>
+    requires { 0 < length into.old }
+    ensures { IfOk result (λ all. all ≡ true → Consumes (I.remaining input.old) (I.remaining input.new) into.new) }
+{
     let (first, rest) = into.split_at_mut(1);
     match input.read_exact(first) {
         Ok(()) => {}
@@ -54,13 +58,17 @@ pub(crate) fn begin<I: Read>(input: &mut I, into: &mut [u8]) -> io::Result<bool>
 }
 
 /// Skips bytes.
-pub(crate) fn skip<I: Read>(input: &mut I, bytes: u32) -> io::Result<()> {
+pub(crate) fn skip<I: Read>(input: &mut I, bytes: u32) -> io::Result<()>
+    ensures { OnOk result (TakesSome bytes (Consumes (I.remaining input.old) (I.remaining input.new))) }
+{
     let mut room = [0; STEP];
-    for _ in 0..bytes as usize / STEP {
-        input.read_exact(&mut room)?;
+    let mut left = bytes as usize;
+    while left > 0 {
+        let some = left.min(STEP);
+        input.read_exact(&mut room[..some])?;
+        left -= some;
     }
-    let rest = bytes as usize % STEP;
-    input.read_exact(&mut room[..rest])
+    Ok(())
 }
 
 /// Greets a client and answers its options; true if requests follow.
@@ -75,22 +83,42 @@ pub(crate) fn shake_hands<I: Read, O: Write, W: Wait>(
     input: &mut I,
     out: &mut O,
     volume: &Volume<'_>,
-) -> io::Result<bool> {
+) -> io::Result<bool>
+    ensures { IfOk result (λ follow. follow ≡ true → TakesHandshake (Consumes (I.remaining input.old) (I.remaining input.new))) }
+{
     let mut greeting = [0; GREETING_BYTES];
     write_greeting(&mut greeting, FIXED_NEWSTYLE | NO_ZEROES);
     out.write_all(&greeting)?;
     out.flush()?;
-    let mut flags = [0; 4];
-    if !begin(input, &mut flags)? {
+    let mut bytes = [0; 4];
+    let whole = begin(input, &mut bytes)?;
+    if !whole {
         return Ok(false);
     }
-    let flags = BigEndian::read_u32(&flags);
+    let flags = BigEndian::read_u32(&bytes);
     if flags > u32::from(FIXED_NEWSTYLE | NO_ZEROES) {
         return Err(io::Error::from(ErrorKind::InvalidData));
     }
     let zeroed = flags / u32::from(NO_ZEROES) == 0;
-    for _ in rt.forever() {
-        let next = answer_option(alloc, input, out, volume, zeroed)?;
+    answer_options(rt, alloc, input, out, volume, zeroed)
+}
+
+/// Answers a client's options; true if requests follow.
+fn answer_options<I: Read, O: Write, W: Wait>(
+    rt: &W,
+    alloc: Global,
+    input: &mut I,
+    out: &mut O,
+    volume: &Volume<'_>,
+    zeroed: bool,
+) -> io::Result<bool>
+    ensures { IfOk result (λ follow. follow ≡ true → TakesOptions (Consumes (I.remaining input.old) (I.remaining input.new))) }
+{
+    'answering: for _ in rt.forever() {
+        let Some(told) = read_option(alloc, input)? else {
+            return Ok(false);
+        };
+        let next = answer_option(out, volume, zeroed, &told)?;
         out.flush()?;
         if next != Next::Option {
             return Ok(next == Next::Request);
@@ -99,37 +127,76 @@ pub(crate) fn shake_hands<I: Read, O: Write, W: Wait>(
     unreachable!()
 }
 
-/// Reads and answers an option. Data that are too long are skipped.
-fn answer_option<I: Read, O: Write>(
+/// An option that a client told.
+#[derive(Drop)]
+struct Told {
+    option: u32,
+    /// `None` if they are too long.
+    data: Option<Vec<u8>>,
+}
+
+/// Reads the next option; `None` if the client ended before it.
+///
+/// # Errors
+///
+/// The client could not be read, or ended within it. `InvalidData`: these bytes are no option.
+fn read_option<I: Read>(alloc: Global, input: &mut I) -> io::Result<Option<Told>>
+    ensures { IfOk result (λ next. IfSome next (λ told. TakesOption (Consumes (I.remaining input.old) (I.remaining input.new)) told.option (λ bs. IfSome told.data (λ kept. kept.items ≡ bs)))) }
+{
+    let mut bytes = [0; OPTION_BYTES];
+    let whole = begin(input, &mut bytes)?;
+    if !whole {
+        return Ok(None);
+    }
+    match OptionHeader::read(&bytes) {
+        Some(header) => {
+            let data = read_data(alloc, input, &header)?;
+            Ok(Some(Told {
+                option: header.option,
+                data,
+            }))
+        }
+        None => Err(io::Error::from(ErrorKind::InvalidData)),
+    }
+}
+
+/// Reads the data of an option. If they are too long they are skipped.
+fn read_data<I: Read>(
     alloc: Global,
     input: &mut I,
+    header: &OptionHeader,
+) -> io::Result<Option<Vec<u8>>>
+    ensures { IfOk result (λ told. TakesData (Consumes (I.remaining input.old) (I.remaining input.new)) header.now.length (λ bs. IfSome told (λ kept. kept.items ≡ bs))) }
+{
+    if let Some(length) = header.data_bytes() {
+        let mut data = vec![in alloc; 0u8; length]?;
+        input.read_exact(data.as_mut_slice())?;
+        return Ok(Some(data));
+    }
+    skip(input, header.length)?;
+    Ok(None)
+}
+
+/// Answers an option.
+fn answer_option<O: Write>(
     out: &mut O,
     volume: &Volume<'_>,
     zeroed: bool,
+    told: &Told,
 ) -> io::Result<Next> {
-    let mut bytes = [0; OPTION_BYTES];
-    if !begin(input, &mut bytes)? {
-        return Ok(Next::End);
-    }
-    let Some(header) = OptionHeader::read(&bytes) else {
-        return Err(io::Error::from(ErrorKind::InvalidData));
+    let Some(data) = &told.data else {
+        return too_long(out, told.option);
     };
-    let Some(length) = header.data_bytes() else {
-        skip(input, header.length)?;
-        return too_long(out, header.option);
-    };
-    let mut told = vec![in alloc; 0u8; length]?;
-    input.read_exact(told.as_mut_slice())?;
-    match header.option {
-        EXPORT_NAME => enter(out, volume, zeroed, &told),
-        INFO | GO => tell(out, volume, header.option, &told),
-        LIST => list(out, volume, &told),
+    match told.option {
+        EXPORT_NAME => enter(out, volume, zeroed, data),
+        INFO | GO => tell(out, volume, told.option, data),
+        LIST => list(out, volume, data),
         ABORT => {
             say(out, ABORT, ACK)?;
             Ok(Next::End)
         }
         _ => {
-            say(out, header.option, UNSUPPORTED)?;
+            say(out, told.option, UNSUPPORTED)?;
             Ok(Next::Option)
         }
     }

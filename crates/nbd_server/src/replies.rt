@@ -1,21 +1,24 @@
 //! Answers to requests, when each may be given, and the one output.
-ghost use Rattle.std.specs.Prelude.{◌≡◌, ◌≢◌, ◌≤◌, ◌+◌, length, take, IfOk, IfSome};
+ghost use Rattle.std.specs.Prelude.{◌≡◌, ◌≢◌, ◌≤◌, ◌+◌, length, take, IfErr, IfOk, IfSome};
 ghost use Rattle.nbd_protocol.specs.Layout.{simple_reply};
 ghost use Rattle.nbd_protocol.specs.Requests.{WantsCommit};
-ghost use Rattle.nbd_server.specs.Answers.{IsOwedTo};
+ghost use Rattle.byte_volume.specs.Writing.{AreNoted};
+ghost use Rattle.nbd_server.specs.Answers.{AnswersRead, IsDone, IsOwedTo};
+ghost use Rattle.nbd_server.specs.Causes.{ReadFails, error_number};
 ghost use Rattle.nbd_server.specs.declared.replies.Answer.TheVariants.{Later};
 
+use crate::asked::{Asked, Payload};
 use crate::export::Volume;
 use crate::handshake::shake_hands;
 use block_device::Device;
-use byte_volume::{Committed, Stopped};
+use byte_volume::{Committed, Stopped, Tickets, read_range};
 use journal_model::{JournalError, Tid};
 use nbd_protocol::numbers::{EINVAL, EIO, ENOMEM};
 use nbd_protocol::{REPLY_BYTES, Request, write_reply};
 use shared_journal::{JournalName, Record};
 use std::alloc::{AllocError, Global};
 use std::io::{Read, Write};
-use std::marker::Model;
+use std::marker::{Model, PhantomData};
 use std::sync::{Mutex, Wait};
 use std::{io, mem};
 use volume_service::Session;
@@ -23,14 +26,16 @@ use volume_service::Session;
 /// An answer with this many bytes is long.
 pub(crate) const LONG_BYTES: usize = 65_536;
 
-/// An owed answer to a flush, or to a change with `FUA` that was made: it may come once all transactions up to a number are committed.
-#[derive(Debug, Drop)]
-pub struct Due {
+/// An owed answer to a flush, or to a change with `FUA` that was made: it may come once all transactions up to a number are committed. It
+/// is made of the request, which only an input of type I makes.
+#[derive(Drop)]
+pub struct Due<I> {
     cookie: u64,
     upto: Tid,
+    of: PhantomData<I>,
 }
 
-impl Model for Due {
+impl<I> Model for Due<I> {
     ghost use Rattle.nbd_server.specs.Owing.{DueValue};
 
     ghost Value = { DueValue };
@@ -38,23 +43,28 @@ impl Model for Due {
     ghost view = { λ d. record { cookie = d.cookie; upto = d.upto } };
 }
 
-impl Due {
-    /// The owed answer of a request. Its number covers every handle that has stopped, of this connection or another. It takes the journal's
-    /// lock.
+impl<I> Due<I> {
+    /// The owed answer of a request that was done, by the handles of these tickets. Its number covers them, and every handle that has
+    /// stopped, of this connection or another. It takes the journal's lock.
     /// Source: fs/jbd2/journal.c by behaviour (`jbd2_journal_start_commit`).
     pub fn of<J: JournalName, D: Device, R: Record, W: Wait>(
         rt: &W,
         session: &Session<'_, J, D, R>,
-        request: &Request,
+        asked: Asked<I>,
+        _payload: &Payload<I>,
+        _tickets: &Tickets<J, R>,
         stopped: &Stopped,
-    ) -> Due
-        ensures { IsOwedTo D request.now stopped.now result }
+    ) -> Due<I>
+        requires done { IsDone D.state D.honest J.name J.name.shape.block_size J.name.capacity asked _payload.now _tickets.now }
+        requires noted { AreNoted stopped.now _tickets.now }
+        ensures { IsOwedTo D.state D.honest J.name asked stopped.now result }
     {
         let (last, noted) = (session.last_joined(rt), stopped.upto());
         let upto = if last.0 < noted.0 { noted } else { last };
         Due {
-            cookie: request.cookie,
+            cookie: asked.request().cookie,
             upto,
+            of: PhantomData,
         }
     }
 
@@ -73,13 +83,14 @@ impl Due {
     }
 }
 
-/// An answer without bytes after it.
-#[derive(Debug, Drop)]
-pub struct Reply {
+/// An answer without bytes after it, to a request of an input of type I.
+#[derive(Drop)]
+pub struct Reply<I> {
     bytes: [u8; REPLY_BYTES],
+    of: PhantomData<I>,
 }
 
-impl Model for Reply {
+impl<I> Model for Reply<I> {
     ghost use Rattle.std.specs.Prelude.{ℕ, List};
 
     ghost Value = { List ℕ };
@@ -87,39 +98,56 @@ impl Model for Reply {
     ghost view = { λ r. r.bytes };
 }
 
-impl Reply {
+impl<I> Reply<I> {
     /// An answer with this error, or 0 for success.
-    fn new(error: u32, cookie: u64) -> Reply
+    fn new(error: u32, cookie: u64) -> Reply<I>
         ensures { result ≡ simple_reply error cookie }
     {
         let mut bytes = [0; REPLY_BYTES];
         write_reply(&mut bytes, error, cookie);
-        Reply { bytes }
+        Reply {
+            bytes,
+            of: PhantomData,
+        }
     }
 
-    /// An answer that is given at once; it must be an error if the request wants a commit.
-    pub fn at_once(request: &Request, error: u32) -> Reply
-        requires { WantsCommit request.now → error ≢ 0 }
-        ensures { result ≡ simple_reply error request.now.cookie }
+    /// An error.
+    pub fn refused(asked: Asked<I>, error: u32) -> Reply<I>
+        requires { error ≢ 0 }
+        ensures { result ≡ simple_reply error asked.cookie }
     {
-        Reply::new(error, request.cookie)
+        Reply::new(error, asked.request().cookie)
+    }
+
+    /// Success of a request that was done, by the handles of these tickets, and wants no commit.
+    pub fn done<J: JournalName, D: Device, R: Record>(
+        _session: &Session<'_, J, D, R>,
+        asked: Asked<I>,
+        _payload: &Payload<I>,
+        _tickets: &Tickets<J, R>,
+    ) -> Reply<I>
+        requires change { asked.command ≢ 0 }
+        requires done { IsDone D.state D.honest J.name J.name.shape.block_size J.name.capacity asked _payload.now _tickets.now }
+        requires at_once { WantsCommit asked → ⊥ }
+        ensures { result ≡ simple_reply 0 asked.cookie }
+    {
+        Reply::new(0, asked.request().cookie)
     }
 
     /// Success of an owed answer, with a receipt for its transactions.
-    pub fn committed(due: &Due, receipt: &Committed) -> Reply
-        requires { due.now.upto ≤ receipt.now }
-        ensures { result ≡ simple_reply 0 due.now.cookie }
+    pub fn committed(due: Due<I>, receipt: &Committed) -> Reply<I>
+        requires { due.upto ≤ receipt.now }
+        ensures { result ≡ simple_reply 0 due.cookie }
     {
         let _no_earlier = receipt.upto();
         Reply::new(0, due.cookie)
     }
 
-    /// An error for an owed answer.
-    pub fn not_committed(due: &Due, error: u32) -> Reply
-        requires { error ≢ 0 }
-        ensures { result ≡ simple_reply error due.now.cookie }
+    /// The error for an owed answer whose wait was refused.
+    pub fn not_committed(due: Due<I>, why: JournalError) -> Reply<I>
+        ensures { result ≡ simple_reply (error_number why) due.cookie }
     {
-        Reply::new(error, due.cookie)
+        Reply::new(error_of(why), due.cookie)
     }
 }
 
@@ -135,13 +163,14 @@ fn take_room(alloc: Global, wanted: usize, room: &mut Vec<u8>) -> Result<Vec<u8>
     Ok(bytes)
 }
 
-/// A read's success, with its bytes.
-#[derive(Debug, Drop)]
-pub struct ReadReply {
+/// A read's success, with its bytes, to a request of an input of type I.
+#[derive(Drop)]
+pub struct ReadReply<I> {
     bytes: Vec<u8>,
+    of: PhantomData<I>,
 }
 
-impl Model for ReadReply {
+impl<I> Model for ReadReply<I> {
     ghost use Rattle.std.specs.Prelude.{ℕ, List};
 
     ghost Value = { List ℕ };
@@ -149,32 +178,68 @@ impl Model for ReadReply {
     ghost view = { λ r. r.bytes.items };
 }
 
-impl ReadReply {
-    /// The answer's header, with room for the bytes after it. A long one takes the memory of `room`.
-    pub(crate) fn begin(
-        alloc: Global,
-        request: &Request,
-        room: &mut Vec<u8>,
-    ) -> Result<Vec<u8>, AllocError>
-        requires read { request.now.command ≡ 0 }
-        ensures length { IfOk result (λ bytes. length bytes.items ≡ 16 + request.now.length) }
-        ensures head { IfOk result (λ bytes. take 16 bytes.items ≡ simple_reply 0 request.now.cookie) }
-    {
-        let length = REPLY_BYTES + request.length as usize;
-        let mut bytes = take_room(alloc, length, room)?;
-        write_reply(&mut bytes, 0, request.cookie);
-        Ok(bytes)
-    }
+/// The answer's header, with room for the bytes after it. A long one takes the memory of `room`.
+fn begin_read(alloc: Global, request: &Request, room: &mut Vec<u8>) -> Result<Vec<u8>, AllocError>
+    ensures length { IfOk result (λ bytes. length bytes.items ≡ 16 + request.now.length) }
+    ensures head { IfOk result (λ bytes. take 16 bytes.items ≡ simple_reply 0 request.now.cookie) }
+{
+    let length = REPLY_BYTES + request.length as usize;
+    let mut bytes = take_room(alloc, length, room)?;
+    write_reply(&mut bytes, 0, request.cookie);
+    Ok(bytes)
+}
 
-    pub(crate) fn of(bytes: Vec<u8>) -> ReadReply
-        ensures { result ≡ bytes.items }
+/// The bytes of a read's success.
+fn read_bytes<J: JournalName, D: Device, R: Record, W: Wait>(
+    rt: &W,
+    alloc: Global,
+    session: &Session<'_, J, D, R>,
+    request: &Request,
+    room: &mut Vec<u8>,
+) -> Result<Vec<u8>, JournalError>
+    ensures ok { IfOk result (λ bytes. AnswersRead D.state D.honest J.name J.name.shape.block_size request.now bytes.items) }
+    ensures err { IfErr result (ReadFails D.state request.now) }
+{
+    let mut bytes = begin_read(alloc, request, room)?;
+    read_range(
+        rt,
+        alloc,
+        session,
+        request.offset,
+        &mut bytes[REPLY_BYTES..],
+    )?;
+    Ok(bytes)
+}
+
+impl<I> ReadReply<I> {
+    /// Answers a read with the newest bytes of each block. A long answer uses the memory of `room`.
+    ///
+    /// # Errors
+    ///
+    /// The request comes back. Those of `byte_volume::read_range`.
+    pub fn read<J: JournalName, D: Device, R: Record, W: Wait>(
+        rt: &W,
+        alloc: Global,
+        session: &Session<'_, J, D, R>,
+        asked: Asked<I>,
+        room: &mut Vec<u8>,
+    ) -> Result<ReadReply<I>, (Asked<I>, JournalError)>
+        requires read { asked.command ≡ 0 }
+        ensures ok { IfOk result (AnswersRead D.state D.honest J.name J.name.shape.block_size asked) }
+        ensures err { IfErr result (λ e. (e.0 ≡ asked) × ReadFails D.state asked e.1) }
     {
-        ReadReply { bytes }
+        match read_bytes(rt, alloc, session, asked.request(), room) {
+            Ok(bytes) => Ok(ReadReply {
+                bytes,
+                of: PhantomData,
+            }),
+            Err(e) => Err((asked, e)),
+        }
     }
 
     /// The memory of an answer that was given.
     pub(crate) fn into_room(self) -> Vec<u8> {
-        let ReadReply { bytes } = self;
+        let ReadReply { bytes, of: _ } = self;
         bytes
     }
 
@@ -184,17 +249,18 @@ impl ReadReply {
     }
 }
 
-#[derive(Debug, Drop)]
-pub enum Answer {
+/// An answer to a request of an input of type I.
+#[derive(Drop)]
+pub enum Answer<I> {
     /// Given at once, without bytes after it.
-    Now(Reply),
+    Now(Reply<I>),
     /// A read's bytes; many of them are sent by another task.
-    Bytes(ReadReply),
+    Bytes(ReadReply<I>),
     /// Given once a commit is done.
-    Later(Due),
+    Later(Due<I>),
 }
 
-impl Answer {
+impl<I> Answer<I> {
     /// Whether it has so many bytes that another task is to send it.
     pub(crate) fn is_long(&self) -> bool {
         match self {
@@ -204,16 +270,16 @@ impl Answer {
     }
 }
 
-/// The one output. An answer is written whole: no other thread's bytes come between. If the writer gathers what it is given, answers wait
-/// there for `send`.
+/// The one output of answers to requests of an input of type I. An answer is written whole: no other thread's bytes come between. If the
+/// writer gathers what it is given, answers wait there for `send`.
 #[derive(Drop)]
-pub struct Output<O: Write + Drop> {
+pub struct Output<I: Drop, O: Write + Drop> {
     out: Mutex<O>,
     /// The last long answer that was given: the next takes its memory.
-    given: Mutex<Option<ReadReply>>,
+    given: Mutex<Option<ReadReply<I>>>,
 }
 
-impl<O: Write + Drop> Output<O> {
+impl<I: Drop, O: Write + Drop> Output<I, O> {
     pub fn new(out: O) -> Self {
         Output {
             out: Mutex::new(out),
@@ -227,11 +293,11 @@ impl<O: Write + Drop> Output<O> {
     }
 
     /// Makes the handshake; true if requests follow.
-    pub(crate) fn shake_hands<I: Read, W: Wait>(
+    pub(crate) fn shake_hands<N: Read, W: Wait>(
         &self,
         rt: &W,
         alloc: Global,
-        input: &mut I,
+        input: &mut N,
         volume: &Volume<'_>,
     ) -> io::Result<bool> {
         let mut out = self.out.lock(rt);
@@ -239,7 +305,7 @@ impl<O: Write + Drop> Output<O> {
     }
 
     /// Gives an answer, or returns it if it is owed. A long one is sent, with all before it.
-    pub fn give<W: Wait>(&self, rt: &W, answer: Answer) -> io::Result<Option<Due>>
+    pub fn give<W: Wait>(&self, rt: &W, answer: Answer<I>) -> io::Result<Option<Due<I>>>
         ensures { IfOk result (λ owed. IfSome owed (λ due. answer ≡ Later due)) }
     {
         match answer {
@@ -254,7 +320,7 @@ impl<O: Write + Drop> Output<O> {
     }
 
     /// Sends a long answer that was given, and keeps its memory.
-    fn keep<W: Wait>(&self, rt: &W, reply: ReadReply) -> io::Result<()> {
+    fn keep<W: Wait>(&self, rt: &W, reply: ReadReply<I>) -> io::Result<()> {
         if reply.is_long() {
             self.send(rt)?;
             *self.given.lock(rt) = Some(reply);
@@ -282,20 +348,24 @@ impl<O: Write + Drop> Output<O> {
 
 /// A task's way to the output. It sends only if it gave an answer since: who sends waits for the answer that is being written.
 #[derive(Drop)]
-pub(crate) struct Outlet<'m, O: Write + Drop> {
-    pub(crate) out: &'m Output<O>,
+pub(crate) struct Outlet<'m, I: Drop, O: Write + Drop> {
+    pub(crate) out: &'m Output<I, O>,
     /// Whether it gave an answer that it did not send.
     unsent: bool,
 }
 
-impl<'m, O: Write + Drop> Outlet<'m, O> {
+impl<'m, I: Drop, O: Write + Drop> Outlet<'m, I, O> {
     /// Nothing is given yet.
-    pub(crate) fn new(out: &'m Output<O>) -> Self {
+    pub(crate) fn new(out: &'m Output<I, O>) -> Self {
         Outlet { out, unsent: false }
     }
 
     /// Gives an answer, or returns it if it is owed.
-    pub(crate) fn give<W: Wait>(&mut self, rt: &W, answer: Answer) -> io::Result<Option<Due>> {
+    pub(crate) fn give<W: Wait>(
+        &mut self,
+        rt: &W,
+        answer: Answer<I>,
+    ) -> io::Result<Option<Due<I>>> {
         let owed = self.out.give(rt, answer)?;
         if owed.is_none() {
             self.unsent = true;
@@ -315,7 +385,8 @@ impl<'m, O: Write + Drop> Outlet<'m, O> {
 
 /// The error number for a refusal.
 pub(crate) fn error_of(refusal: JournalError) -> u32
-    ensures { result ≢ 0 }
+    ensures number { result ≡ error_number refusal }
+    ensures some { result ≢ 0 }
 {
     match refusal {
         JournalError::Memory => ENOMEM,

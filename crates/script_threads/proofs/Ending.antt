@@ -109,6 +109,7 @@ ended-of script plans named are names none (Refused clients) is = tt
 ended-of script plans named are names none (Judged v) is = record {
   served = is.served;
   each = all-of script.measures.block_size is.served.committed is.served.sealed script.clients.items plans is.served.clients are is.each;
+  name = is.name;
   left = is.left;
   named = named;
   names = names;

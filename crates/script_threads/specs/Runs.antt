@@ -6,6 +6,7 @@ use Rattle.std.specs.List.{AllZip}
 use Rattle.journal_model.specs.declared.transaction.Step.{Step}
 use Rattle.journal_model.specs.Transaction.{History}
 use Rattle.block_device.specs.Memory.{state_of}
+use Rattle.handle.specs.Name.{JournalId}
 use Rattle.locked_journal.specs.Own.{Confirms, stopped_own}
 use Rattle.journal_script.specs.Clients.{HasTouchedAll, IsClientScriptOf, handles_of}
 use Rattle.journal_script.specs.declared.clients.ClientHandle.{ClientHandle}
@@ -54,7 +55,8 @@ AreServedOf size committed sealed clients told =
 pub record AreJudged (plans : List (Vec HandlePlan Global)) (named : NamedBlocks) (v : Verdicts) : Type 0 where
   pub served : Served
   pub each : AreServed served.committed served.sealed plans served.clients
-  pub left : IsLeftWith state_of (λ d. Unit {0}) served.device served.sealed served.committed served.word served.entries
+  pub name : JournalId
+  pub left : IsLeftWith state_of (λ d. Unit {0}) name served.device served.sealed served.committed served.word served.entries
   pub verdicts : AreVerdicts served named v
 
 -- Clients were refused something, or these are the verdicts.
@@ -67,7 +69,8 @@ IsEndedOn plans named (Judged v) = AreJudged plans named v
 pub record IsRunOf (script : ClientScript) (v : Verdicts) : Type 0 where
   pub served : Served
   pub each : AreServedOf script.measures.block_size served.committed served.sealed script.clients.items served.clients
-  pub left : IsLeftWith state_of (λ d. Unit {0}) served.device served.sealed served.committed served.word served.entries
+  pub name : JournalId
+  pub left : IsLeftWith state_of (λ d. Unit {0}) name served.device served.sealed served.committed served.word served.entries
   pub named : NamedBlocks
   pub names : All (λ handles. HasTouchedAll handles (keys named.blocks)) (handles_of script)
   pub no_directs : keys named.directs ≡ []

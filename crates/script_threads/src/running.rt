@@ -104,7 +104,7 @@ fn judge<J: JournalName>(
         (AllZip (λ h e. Came h e.tid e.receipt e.ticket) (slice_index_or plans.now k p).items (slice_index_or outcome.clients.items k c).handles.items) }
     requires stand { (k : ℕ) (c : _) → k < vec_len outcome.clients →
         All (λ e. IfSome e.receipt (Stands outcome.parts.committed outcome.parts.sealed.items)) (slice_index_or outcome.clients.items k c).handles.items }
-    requires left { IsLeftWith state_of (λ d. Unit {0}) outcome.parts.device outcome.parts.sealed.items outcome.parts.committed outcome.tally.word outcome.tally.entries }
+    requires left { IsLeftWith state_of (λ d. Unit {0}) J.name outcome.parts.device outcome.parts.sealed.items outcome.parts.committed outcome.tally.word outcome.tally.entries }
     ensures { IfOk result (IsEndedOn plans.now named.now) }
 {
     let refused = refused_of(alloc, &outcome.clients)?;

@@ -1,6 +1,7 @@
 //! Clients in threads of their own, over a device in memory: undisturbed, held at a gate, short of room, and over a failing device.
 ghost use Rattle.std.specs.Prelude.{◌≡◌};
 
+mod flushes;
 mod gates;
 mod own;
 mod refused;

@@ -1,6 +1,7 @@
 -- An unnamed journal: its state, the name that it will get, and the log that it is created on.
-use Rattle.std.specs.Prelude.{◌≡◌, ◌<◌}
+use Rattle.std.specs.Prelude.{◌≡◌, ◌<◌, Bool}
 use Rattle.atomic_table.specs.Seated.{TableId}
+use Rattle.journal_model.specs.declared.number.Area.TheVariants.{Home, Log}
 use Rattle.journal_model.specs.declared.refusal.JournalError.{JournalError}
 use Rattle.journal_model.specs.declared.refusal.JournalError.TheVariants.{Memory}
 use Rattle.block_device.specs.State.{DeviceState}
@@ -11,6 +12,7 @@ use Rattle.recovery.specs.Opening.{IsDone, OpeningRefused}
 use Rattle.recovery.specs.Values.{OpenedValue}
 use Rattle.handle.specs.Name.{JournalId}
 use Rattle.handle.specs.Values.{BoardValue}
+use Rattle.locked_journal.specs.Begun.{cells_of}
 use Rattle.locked_journal.specs.Locked.{IsHeld}
 use Rattle.journal_sides.specs.Sides.{SidesValue}
 use Rattle.journal_steps.specs.Values.{JournalValue}
@@ -21,17 +23,31 @@ pub record UnnamedValue (D : Type 0) : Type 0 where
   pub name : JournalId
   pub journal : JournalValue D
 
-abbrev pub unnamed_value : {D : Type 0} → (D → DeviceState) → BoardValue → TableId → SidesValue D → UnnamedValue D
-unnamed_value state unnamed parts s = record {
+abbrev pub unnamed_value : {D : Type 0} → (D → DeviceState) → BoardValue → TableId → (direct : Bool) → SidesValue D → UnnamedValue D
+unnamed_value state unnamed parts direct s = record {
   name = record {
     board = unnamed.board;
     parts = parts;
     reconciler = s.reconciler;
     capacity = unnamed.capacity;
     shape = (state s.journal.device).shape;
+    begun = s.journal.journal;
+    log = cells_of (state s.journal.device).disk Log (state s.journal.device).shape.log_blocks;
+    home = cells_of (state s.journal.device).disk Home (state s.journal.device).shape.home_blocks;
+    direct = direct;
   };
   journal = s.journal;
 }
+
+-- The name has the beginning of this journal: what it is, and what is on its device.
+pub record IsBegun {D : Type 0} (state : D → DeviceState) (unnamed : UnnamedValue D) : Type 0 where
+  pub journal : unnamed.name.begun ≡ unnamed.journal.journal
+  pub log : unnamed.name.log ≡ cells_of (state unnamed.journal.device).disk Log (state unnamed.journal.device).shape.log_blocks
+  pub home : unnamed.name.home ≡ cells_of (state unnamed.journal.device).disk Home (state unnamed.journal.device).shape.home_blocks
+
+-- If device reads so far were correct, a run begins with it.
+abbrev pub MayBegin : {D : Type 0} → (D → DeviceState) → (D → Type 0) → JournalValue D → Type 0
+MayBegin state honest j = honest j.device → Begins (world_of_new state j.device j)
 
 -- No credit is held, and the mark is the first one; the journal has credits, and a block has bytes.
 pub record IsUnnamed {D : Type 0} (state : D → DeviceState) (unnamed : BoardValue) (j : JournalValue D) : Type 0 where

@@ -1,5 +1,5 @@
 //! Creates a journal on a log, and then gives it its name.
-ghost use Rattle.std.specs.Prelude.{◌≡◌, ◌≤◌, IfErr, IfOk};
+ghost use Rattle.std.specs.Prelude.{◌≡◌, ◌≤◌, false, true, IfErr, IfOk};
 ghost use Rattle.journal_model.specs.declared.refusal.JournalError.TheVariants.{Memory};
 ghost use Rattle.log_model.specs.Opening.{layout_of, ring_of};
 ghost use Rattle.log_model.specs.Room.{IsCapacity};
@@ -10,7 +10,7 @@ ghost use Rattle.group_commit.specs.Begun.{world_of_new};
 ghost use Rattle.recovery.specs.Values.{IsNextNamed};
 ghost use Rattle.handle.specs.Rule.{greatest_allotment, greatest_capacity};
 ghost use Rattle.handle.specs.Values.{fresh_seat};
-ghost use Rattle.shared_journal.specs.Unnamed.{IsCreatedOn, NotCreatedOn};
+ghost use Rattle.shared_journal.specs.Unnamed.{IsBegun, IsCreatedOn, NotCreatedOn};
 
 use crate::journal::Journal;
 use block_device::Device;
@@ -32,16 +32,18 @@ pub struct UnnamedJournal<D: Device, R: Record = Unrecorded> {
     sides: UnnamedSides<D, R>,
     board: UnnamedBoard,
     knowing: UnnamedKnowing<R>,
+    /// Whether its blocks may be written directly.
+    direct: bool,
 }
 
 impl<D: Device, R: Record> Model for UnnamedJournal<D, R> {
-    ghost use Rattle.shared_journal.specs.Unnamed.{IsUnnamed, UnnamedValue, unnamed_value};
+    ghost use Rattle.shared_journal.specs.Unnamed.{IsUnnamed, MayBegin, UnnamedValue, unnamed_value};
 
     ghost Value = { UnnamedValue D };
 
-    ghost view = { λ l. unnamed_value D.state l.board l.knowing l.sides };
+    ghost view = { λ l. unnamed_value D.state l.board l.knowing l.direct l.sides };
 
-    ghost invariant = { λ l. IsUnnamed D.state l.board l.sides.journal };
+    ghost invariant = { λ l. IsUnnamed D.state l.board l.sides.journal × MayBegin D.state D.honest l.sides.journal };
 }
 
 /// The capacity, in credits, of a journal on this log.
@@ -54,7 +56,7 @@ fn capacity_on<D: Device>(opened: &Opened<D>) -> u64
     Layout::capacity(opened.layout(), u64::from(fields.s_maxlen - fields.s_first))
 }
 
-/// Creates an unnamed journal on an opened log.
+/// Creates an unnamed journal on an opened log. Its blocks can't be written directly.
 ///
 /// # Errors
 ///
@@ -66,6 +68,8 @@ pub fn create<D: Device, R: Record>(
     ensures fresh { IfOk result (λ unnamed. IsFresh (D.state opened.device).shape opened.superblock opened.next unnamed.journal.journal) }
     ensures device { IfOk result (λ unnamed. unnamed.journal.device ≡ opened.device) }
     ensures begins { IfOk result (λ unnamed. D.honest opened.device → Begins (world_of_new D.state opened.device unnamed.journal)) }
+    ensures begun { IfOk result (IsBegun D.state) }
+    ensures direct { IfOk result (λ unnamed. unnamed.name.direct ≡ false) }
     ensures err { IfErr result (λ e. (e.0 ≡ opened) × (e.1 ≡ Memory)) }
 {
     let next = opened.next();
@@ -80,6 +84,7 @@ pub fn create<D: Device, R: Record>(
         sides,
         board,
         knowing,
+        direct: false,
     })
 }
 
@@ -92,6 +97,8 @@ impl<D: Device + Drop, R: Record> UnnamedJournal<D, R> {
     /// Those of `open` and `create`. The device is dropped.
     pub fn open(alloc: Global, device: D) -> Result<Self, JournalError>
         ensures created { IfOk result (λ unnamed. IsCreatedOn D.state D.honest device unnamed.journal) }
+        ensures begun { IfOk result (IsBegun D.state) }
+        ensures direct { IfOk result (λ unnamed. unnamed.name.direct ≡ false) }
         ensures err { IfErr result (NotCreatedOn D.state D.honest device) }
     {
         match open(alloc, device) {
@@ -105,6 +112,24 @@ impl<D: Device + Drop, R: Record> UnnamedJournal<D, R> {
 }
 
 impl<D: Device, R: Record> UnnamedJournal<D, R> {
+    /// The same, but its blocks may be written directly.
+    pub fn with_direct_writes(self) -> Self
+        ensures { result ≡ record self { name = record self.name { direct = true } } }
+    {
+        let UnnamedJournal {
+            sides,
+            board,
+            knowing,
+            direct: _,
+        } = self;
+        UnnamedJournal {
+            sides,
+            board,
+            knowing,
+            direct: true,
+        }
+    }
+
     /// The journal that `J` names, and the first seat. The caller must show that `J` is this journal's name.
     pub fn named<J: JournalName>(self) -> (Journal<J, D, R>, Seat<J>)
         requires name { self.name ≡ J.name }
@@ -114,6 +139,7 @@ impl<D: Device, R: Record> UnnamedJournal<D, R> {
             sides,
             board,
             knowing,
+            direct: _,
         } = self;
         let measures = (sides.block_size(), sides.home_blocks());
         let (pool, mark, raiser, mut seat) = board.named::<J>();

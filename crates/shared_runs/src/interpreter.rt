@@ -1,5 +1,5 @@
 //! Performs a script's operations on a shared journal.
-ghost use Rattle.std.specs.Prelude.{◌≡◌, length, IfOk};
+ghost use Rattle.std.specs.Prelude.{◌≡◌, length, true, IfOk};
 
 use crate::outcome::{Outcome, PRINTED_BYTES};
 use crate::slots::{Slot, Slots};
@@ -24,6 +24,7 @@ pub(crate) struct Interpreter<'j, J: JournalName, R: Wait> {
     slots: Slots<'j, J>,
     /// The greatest acknowledged transaction.
     acknowledged: Option<Tid>,
+    ghost direct: { J.name.direct ≡ true },
 }
 
 fn copy_front(to: &mut [u8], from: &[u8])
@@ -77,7 +78,9 @@ impl<'j, J: JournalName, R: Wait> Interpreter<'j, J, R> {
         journal: &'j Journal<J, RunDevice, Vec<Sealed>>,
         seat: Seat<J>,
         operations: &[Operation],
-    ) -> Result<Self, JournalError> {
+    ) -> Result<Self, JournalError>
+        requires { J.name.direct ≡ true }
+    {
         let names = names_in(operations);
         let room = Vec::with_capacity(alloc, names)?;
         Ok(Interpreter {

@@ -1,5 +1,5 @@
 //! Runs scripts over a shared journal, as `script_run` does over the journal of one thread.
-ghost use Rattle.std.specs.Prelude.{◌≡◌};
+ghost use Rattle.std.specs.Prelude.{◌≡◌, true};
 
 use crate::interpreter::Interpreter;
 use crate::outcome::{Outcome, write_line};
@@ -150,7 +150,10 @@ fn done_on<R: Wait>(
     out: &mut Vec<u8>,
 ) -> Result<Done, Fault> {
     match create(alloc, opened) {
-        Ok(unnamed) => done_by::<Brand, R>(rt, alloc, unnamed, operations, after, out),
+        Ok(unnamed) => {
+            let unnamed = unnamed.with_direct_writes();
+            done_by::<Brand, R>(rt, alloc, unnamed, operations, after, out)
+        }
         Err((_, e)) => Err(Fault::Refused(e)),
     }
 }
@@ -164,6 +167,7 @@ fn done_by<J: JournalName, R: Wait>(
     out: &mut Vec<u8>,
 ) -> Result<Done, Fault>
     requires name { unnamed.name ≡ J.name }
+    requires direct { unnamed.name.direct ≡ true }
 {
     let (journal, seat) = unnamed.named::<J>();
     let shown = perform(rt, alloc, &journal, seat, operations, after, out);
@@ -186,7 +190,9 @@ fn perform<J: JournalName, R: Wait>(
     operations: &[Operation],
     after: AfterFailure,
     out: &mut Vec<u8>,
-) -> Result<Option<Tid>, Fault> {
+) -> Result<Option<Tid>, Fault>
+    requires { J.name.direct ≡ true }
+{
     let mut interpreter = Interpreter::new(rt, alloc, journal, seat, operations)?;
     let performed = perform_all(&mut interpreter, operations, after, out);
     let shown = interpreter.finish();

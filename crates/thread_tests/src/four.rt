@@ -1,6 +1,6 @@
 //! Four threads write, read, revoke, write directly and audit over one journal. After its close the log is opened again, and home is judged
 //! by the record.
-ghost use Rattle.std.specs.Prelude.{◌≡◌};
+ghost use Rattle.std.specs.Prelude.{◌≡◌, true};
 
 use crate::expected::expect;
 use crate::journals::unnamed_on;
@@ -128,7 +128,9 @@ fn work<J: JournalName, D: Device, K: Record, R: Wait>(
     journal: &Journal<J, D, K>,
     mut seat: Seat<J>,
     thread: u8,
-) -> bool {
+) -> bool
+    requires { J.name.direct ≡ true }
+{
     for round in 0..HANDLES {
         let Some(mut handle) = start(rt, journal, &mut seat) else {
             return false;
@@ -152,7 +154,9 @@ fn first_two<
     D: Device + Send,
     K: Record + Send,
     R: Threads + Wait + Sync,
->(rt: &R, journal: &Journal<J, D, K>, one: Seat<J>, two: Seat<J>) -> bool {
+>(rt: &R, journal: &Journal<J, D, K>, one: Seat<J>, two: Seat<J>) -> bool
+    requires { J.name.direct ≡ true }
+{
     let (one, two) = join(
         rt,
         || -> bool { work(rt, journal, one, 0) },
@@ -166,7 +170,9 @@ fn last_two<
     D: Device + Send,
     K: Record + Send,
     R: Threads + Wait + Sync,
->(rt: &R, journal: &Journal<J, D, K>, one: Seat<J>, two: Seat<J>) -> bool {
+>(rt: &R, journal: &Journal<J, D, K>, one: Seat<J>, two: Seat<J>) -> bool
+    requires { J.name.direct ≡ true }
+{
     let (one, two) = join(
         rt,
         || -> bool { work(rt, journal, one, 2) },
@@ -180,7 +186,9 @@ fn all_four<
     D: Device + Send,
     K: Record + Send,
     R: Threads + Wait + Sync,
->(rt: &R, journal: &Journal<J, D, K>, seats: [Seat<J>; 4]) -> bool {
+>(rt: &R, journal: &Journal<J, D, K>, seats: [Seat<J>; 4]) -> bool
+    requires { J.name.direct ≡ true }
+{
     let [one, two, three, four] = seats;
     let (first, last) = join(
         rt,
@@ -287,6 +295,7 @@ fn worked<J: JournalName + Send + Sync, R: Threads + Wait + Abort + Sync>(
     unnamed: UnnamedJournal<MemDevice, Vec<Sealed>>,
 )
     requires name { unnamed.name ≡ J.name }
+    requires direct { unnamed.name.direct ≡ true }
 {
     let (journal, mut seat) = unnamed.named::<J>();
     let (Some(one), Some(two), Some(three)) = (
@@ -305,7 +314,7 @@ fn worked<J: JournalName + Send + Sync, R: Threads + Wait + Abort + Sync>(
 
 /// One run, over a ring that wraps several times.
 fn run<R: Threads + Wait + Abort + Sync>(rt: &R, alloc: Global) -> Result<(), JournalError> {
-    let unnamed = unnamed_on(alloc, formatted(alloc, 65, HOME_BLOCKS)?)?;
+    let unnamed = unnamed_on(alloc, formatted(alloc, 65, HOME_BLOCKS)?)?.with_direct_writes();
     worked::<Brand, _>(rt, alloc, unnamed);
     Ok(())
 }

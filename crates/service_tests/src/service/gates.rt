@@ -7,7 +7,7 @@ use volume_service::{Gate, Point};
 const LOOKS: u32 = 2_000_000;
 
 /// Looks until the word is at least this number. False if it stayed below.
-fn comes_to(word: &AtomicU64, least: u64) -> bool {
+pub(crate) fn comes_to(word: &AtomicU64, least: u64) -> bool {
     for _ in 0..LOOKS {
         if word.load(Ordering::SeqCst) >= least {
             return true;

@@ -64,7 +64,7 @@ impl<J: JournalName, D: Device, R: Record, G: Gate> Client<J, D, R, G> for Leade
             wrote?;
             session.commit_up_to(rt, ticket.tid())?;
             if self.keeps_room {
-                session.keep_room(rt);
+                session.room().keep(rt);
             }
         }
         Ok(())
@@ -101,7 +101,7 @@ fn left<R: Threads + Wait + Sync>(
     left_by_a_leader::<Brand, _>(rt, alloc, unnamed, keeps_room)
 }
 
-/// A round is over after the second commit, and after the fifth. Without `keep_room` a sixth would make the last one.
+/// A round is over after the second commit, and after the fifth. Without `room` a sixth would make the last one.
 #[test]
 fn a_leader_makes_rounds_too(rt: HostRuntime) -> Result<(), Fail> {
     expect(&rt, &left(&rt, rt.alloc(), true), &Ok(0));

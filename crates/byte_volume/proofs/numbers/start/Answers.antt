@@ -5,7 +5,7 @@ use Rattle.byte_volume.proofs.numbers.start.Goals as goal
 
 -- no number was left before
 pub returns-then-numbers_left-eq0-clause-err : goal.returns-then-numbers_left-eq0-clause-err
-returns-then-numbers_left-eq0-clause-err g c = ByNumber refl (none-left g.row.D.Denot (rw c.if-numbers_left-eq0.true at c.numbers_left.ensures))
+returns-then-numbers_left-eq0-clause-err g c = ByNumber refl (none-left g.D.Device.state g.D.Device.honest g.J.JournalName.name (rw c.if-numbers_left-eq0.true at c.numbers_left.ensures))
 
 -- the handle joined a transaction after the last one
 pub returns-clause-err : goal.returns-clause-err

@@ -21,7 +21,7 @@ loop-done-preserved g c =
       within = omega (arith, all, long, c.loop-done.invariant.within, c.in_ok-done.ensures.some.1);
       same = omega (arith, all, c.loop-done.invariant.same);
       room = grind (arith, common_steps);
-      reads = further g.D.Device.state g.D.Device.honest g.J.JournalName.name.shape.block_size c.args.offset c.loop-done.done c.in_ok-done.field-0 old new
+      reads = further g.D.Device.state g.D.Device.honest g.J.JournalName.name g.J.JournalName.name.shape.block_size c.args.offset c.loop-done.done c.in_ok-done.field-0 old new
           c.loop-done.invariant.within (omega (arith, long, c.in_ok-done.ensures.some.1)) c.loop-done.invariant.reads c.in_ok-done.ensures.part;
     }
 

@@ -10,7 +10,7 @@ invariant-loop-done g l =
       within : l.done ≤ length l.into;
       same : length l.into ≡ length l.fn.into;
       room : length l.room ≡ size;
-      reads : ReadsRange g.D.Device.state g.D.Device.honest size l.offset (take l.done l.into);
+      reads : ReadsRange g.D.Device.state g.D.Device.honest g.J.JournalName.name size l.offset (take l.done l.into);
     }
 
 -- fewer bytes are left

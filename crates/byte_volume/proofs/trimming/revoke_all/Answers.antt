@@ -1,7 +1,9 @@
-use Rattle.std.proofs.Common.{◌∙◌, ◌+◌, arith}
+use Rattle.std.proofs.Common.{◌∙◌, ◌+◌, ap, arith}
 use Rattle.std.proofs.lemmas.Result.{err_from_is_err_and}
+use Rattle.locked_journal.specs.Known.{HandleKnown}
 use Rattle.byte_volume.proofs.Refusals.{credits_left}
 use Rattle.byte_volume.proofs.Revokes.{one_more, same_number, same_tid}
+use Rattle.byte_volume.proofs.TicketLists.{any_err}
 use Rattle.byte_volume.proofs.trimming.revoke_all.Goals as goal
 
 -- one more block is revoked
@@ -24,4 +26,12 @@ returns-in_err-revoke-clause-err g c =
       its = (omega arith, omega (arith, c.loop-k-test.true));
       credit = omega (arith, c.loop-k-test.true, c.loop-k.invariant.left);
       refused = c.in_err-revoke.ensures.why;
+    })
+
+pub returns-in_err-revoke-clause-left : goal.returns-in_err-revoke-clause-left
+returns-in_err-revoke-clause-left g c =
+    any_err c.from_residual.result (record {
+      count = c.loop-k.k;
+      few = omega (arith, c.loop-k-test.true);
+      added = ap (λ (h : HandleKnown). h.steps) c.in_err-revoke.ensures.err.1 ∙ c.loop-k.invariant.steps;
     })

@@ -1,6 +1,6 @@
 use Rattle.std.proofs.Common.{◌≤◌, ◌-◌}
 use Rattle.byte_volume.specs.Numbers.{last_taken}
-use Rattle.byte_volume.specs.Writing.{RevokesBlocks}
+use Rattle.byte_volume.specs.Writing.{AreNoted, RevokesBlocks}
 use Rattle.byte_volume.proofs.trimming.revoke_pieces.Given as goal
 
 -- this many blocks are revoked; noted handles stay noted, all of transactions that a later opening takes
@@ -9,7 +9,8 @@ invariant-loop-done g l = record {
   within : l.done ≤ l.blocks;
   kept : l.fn.stopped ≤ l.stopped;
   taken : l.fn.stopped ≤ last_taken → l.stopped ≤ last_taken;
-  revoked : RevokesBlocks l.first l.stopped l.done;
+  revoked : RevokesBlocks l.first l.tickets.items l.done;
+  noted : AreNoted l.stopped l.tickets.items;
 }
 
 -- fewer blocks are left

@@ -1,6 +1,6 @@
 use Rattle.std.proofs.Common.{◌≡◌, ◌≤◌, ◌<◌, ◌+◌, ◌-◌, ◌%◌, replicate}
 use Rattle.byte_volume.specs.Numbers.{last_taken}
-use Rattle.byte_volume.specs.Writing.{WritesPieces}
+use Rattle.byte_volume.specs.Writing.{AreNoted, WritesPieces}
 use Rattle.byte_volume.proofs.writing.zero_pieces.Given as goal
 
 -- this many zeros are written, and then a block begins; noted handles stay noted, all of transactions that a later opening takes
@@ -10,7 +10,8 @@ invariant-loop-done g l = record {
   kept : l.fn.stopped ≤ l.stopped;
   taken : l.fn.stopped ≤ last_taken → l.stopped ≤ last_taken;
   begins : l.done < l.count → 0 < (l.offset + l.done) % g.J.JournalName.name.shape.block_size → l.done ≡ 0;
-  pieces : WritesPieces g.D.Device.state g.D.Device.honest g.J.JournalName.name.shape.block_size l.offset l.stopped (replicate l.done 0);
+  pieces : WritesPieces g.D.Device.state g.D.Device.honest g.J.JournalName.name g.J.JournalName.name.shape.block_size l.offset l.tickets.items (replicate l.done 0);
+  noted : AreNoted l.stopped l.tickets.items;
 }
 
 -- fewer zeros are left

@@ -7,3 +7,7 @@ pub of-requires-clause-legal : goal.of-requires-clause-legal
 of-requires-clause-legal g c =
     mid-legal c.front.inside.front c.front.inside.reconciled c.engine.inside.engine c.args.engine c.reconcile.new.front c.front.view_is c.reconcile.ensures.reconciled.engine_is
     (c.engine.view_is ∙ c.reconcile.ensures.engine) g.D.Device.honest c.front.invariant.legal
+
+-- Reads so far are those before the reconciliation.
+pub returns-clause-before : goal.returns-clause-before
+returns-clause-before g c = c.reconcile.ensures.before

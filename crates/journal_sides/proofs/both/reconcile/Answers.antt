@@ -46,3 +46,9 @@ returns-clause-reconciled g c =
       measures =
           sym c.recall_invariant.ensures.shape ∙ (ran-kept state c.front.inside.reconciled c.engine.inside.engine since.ran).shape ∙ c.front.invariant.shape;
     })
+
+-- The engine's reads went on from those of the last reconciliation.
+pub returns-clause-before : goal.returns-clause-before
+returns-clause-before g c =
+    let since = subst (λ (v : EngineValue g.row.D.Denot). IsSince g.D.Device.state g.D.Device.honest c.front.inside.reconciled v) c.engine.invariant c.reconcile.ensures.since in
+    rw (← c.front.view_is, ← c.engine.view_is) since.back

@@ -1,22 +1,67 @@
-use Rattle.std.proofs.Common.{ap, refl, List, ℕ}
-use Rattle.nbd_server.specs.Answers.IsPerformed.{AsOwed, AsRead, AsRefusal}
+use Rattle.std.proofs.Common.{◌≡◌, ◌∙◌, ap, ap₂, refl, subst, sym, true≢false, List, ℕ}
+use Rattle.byte_volume.specs.Writing.{AreNoted}
+use Rattle.nbd_protocol.specs.declared.request.Request.{Request}
+use Rattle.nbd_protocol.specs.Layout.{simple_reply}
+use Rattle.nbd_protocol.specs.Requests.{WantsCommit}
+use Rattle.nbd_server.specs.Answers.{IsDone}
+use Rattle.nbd_server.specs.Answers.IsPerformed.{AsDone, AsFailed, AsOwed, AsRead, AsUnread}
+use Rattle.nbd_server.specs.Causes.{ChangeFails}
 use Rattle.nbd_server.specs.declared.replies.Answer.TheVariants.{Now}
 use Rattle.nbd_server.proofs.answering.perform.Goals as goal
 
 -- the bytes were read
 pub returns-in-Ok-clause-performed : goal.returns-in-Ok-clause-performed
-returns-in-Ok-clause-performed g c = AsRead c.in-Ok.reply c.if-request-eq-READ.true c.in-Ok.ensures refl
+returns-in-Ok-clause-performed g c =
+    AsRead c.in-Ok.reply (ap (λ (r : Request). r.command) (sym c.request.ensures) ∙ c.if-request-eq-READ.true) c.in-Ok.ensures.ok c.requires.none refl
+
+pub returns-in-Ok-clause-noted : goal.returns-in-Ok-clause-noted
+returns-in-Ok-clause-noted g c = subst (AreNoted c.args.stopped.now) (sym c.requires.none) tt
 
 -- they could not be
 pub returns-in-Err-clause-performed : goal.returns-in-Err-clause-performed
-returns-in-Err-clause-performed g c = AsRefusal c.error_of.result c.error_of.ensures (ap (λ (bytes : List ℕ). Now bytes) c.at_once.ensures)
+returns-in-Err-clause-performed g c =
+    AsUnread c.in-Err.e (ap (λ (r : Request). r.command) (sym c.request.ensures) ∙ c.if-request-eq-READ.true) c.in-Err.ensures.err.1 c.requires.none
+    (ap (λ (bytes : List ℕ). Now bytes)
+    (c.refused.ensures ∙ ap₂ (λ (n : ℕ) (r : Request). simple_reply n r.cookie) c.error_of.ensures.number c.in-Err.ensures.err.0))
+
+pub returns-in-Err-clause-noted : goal.returns-in-Err-clause-noted
+returns-in-Err-clause-noted g c = subst (AreNoted c.args.stopped.now) (sym c.requires.none) tt
+
+-- a write has as many bytes as it says
+pub change-requires : goal.change-requires
+change-requires g c is =
+    c.requires.long (ap (λ (r : Request). r.command) (sym c.request.ensures) ∙ is) ∙ ap (λ (r : Request). r.length) (sym c.request.ensures)
 
 -- it is done, and wants a commit
+pub of-requires-clause-done : goal.of-requires-clause-done
+of-requires-clause-done g c =
+    subst (λ (r : Request). IsDone g.D.Device.state g.D.Device.honest g.J.JournalName.name g.J.JournalName.name.shape.block_size g.J.JournalName.name.capacity r c.args.payload.now c.change.new.tickets)
+    c.request.ensures c.in-Ok-change.ensures.done
+
 pub returns-then-wants_commit-clause-performed : goal.returns-then-wants_commit-clause-performed
 returns-then-wants_commit-clause-performed g c =
-    AsOwed c.of.result c.if-request-eq-READ.false c.in-Ok-change.ensures.done (c.wants_commit.ensures.0 c.if-wants_commit.true) c.of.ensures refl
+    AsOwed c.of.result (λ is. c.if-request-eq-READ.false (ap (λ (r : Request). r.command) c.request.ensures ∙ is))
+    (subst (λ (r : Request). IsDone g.D.Device.state g.D.Device.honest g.J.JournalName.name g.J.JournalName.name.shape.block_size g.J.JournalName.name.capacity r c.args.payload.now c.change.new.tickets)
+    c.request.ensures c.in-Ok-change.ensures.done)
+    (subst (λ (r : Request). WantsCommit r) c.request.ensures (c.wants_commit.ensures.0 c.if-wants_commit.true)) c.of.ensures refl
+
+-- it wants none
+pub done-requires-clause-change : goal.done-requires-clause-change
+done-requires-clause-change g c = λ is. c.if-request-eq-READ.false (ap (λ (r : Request). r.command) c.request.ensures ∙ is)
+
+pub done-requires-clause-done : goal.done-requires-clause-done
+done-requires-clause-done g c =
+    subst (λ (r : Request). IsDone g.D.Device.state g.D.Device.honest g.J.JournalName.name g.J.JournalName.name.shape.block_size g.J.JournalName.name.capacity r c.args.payload.now c.change.new.tickets)
+    c.request.ensures c.in-Ok-change.ensures.done
+
+pub done-requires-clause-at_once : goal.done-requires-clause-at_once
+done-requires-clause-at_once g c =
+    λ wants. true≢false (sym (c.wants_commit.ensures.1 (subst (λ (r : Request). WantsCommit r) (sym c.request.ensures) wants)) ∙ c.if-wants_commit.false)
 
 -- it was refused
 pub returns-in-Err-change-clause-performed : goal.returns-in-Err-change-clause-performed
 returns-in-Err-change-clause-performed g c =
-    AsRefusal c.error_of-in-Err-change.result c.error_of-in-Err-change.ensures (ap (λ (bytes : List ℕ). Now bytes) c.at_once-in-Err-change.ensures)
+    AsFailed c.in-Err-change.e
+    (subst (λ (r : Request). ChangeFails g.D.Device.state g.D.Device.honest g.J.JournalName.name g.J.JournalName.name.shape.block_size g.J.JournalName.name.capacity r c.args.payload.now c.change.new.tickets c.in-Err-change.e)
+    c.request.ensures c.in-Err-change.ensures.err)
+    (ap (λ (bytes : List ℕ). Now bytes) (c.refused-in-Err-change.ensures ∙ ap (λ (n : ℕ). simple_reply n c.args.asked.cookie) c.error_of-in-Err-change.ensures.number))

@@ -35,6 +35,7 @@ returns g c =
           (λ k client less. c.requires.stand k client (omega (arith, less, outcome.clients.ok.0)))
           (subst (λ (cs : List (ClientOutcome g.row.J.Denot _)). AllZip (λ client ts. AllZip (λ h t. IsTold h.tid h.receipt t) client.handles.items ts.items) cs told) c.deref-2.ensures.value
           c.in_ok-told.ensures);
+      name = g.J.JournalName.name;
       left = c.requires.left;
       verdicts =
           subst
