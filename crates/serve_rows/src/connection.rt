@@ -6,11 +6,12 @@ use crate::spelling::spell;
 use block_device::{Device, MemDevice};
 use journal_model::Area;
 use log_rows::RowError;
-use nbd_server::{Done, Export, Output, serve};
+use nbd_server::{Done, Export, Output, Served, serve};
 use shared_journal::{UnnamedJournal, Unrecorded};
 use std::alloc::Global;
 use std::fmt::Write;
-use std::io::ErrorKind;
+use std::io;
+use std::io::{ErrorKind, Read};
 use std::sync::Wait;
 use std::sync::atomic::AtomicUsize;
 use std::thread::Threads;
@@ -56,22 +57,41 @@ pub fn serve_on<D: Device + Send + Drop, T: Threads + Wait + Sync>(
         return Err(RowError::Unread);
     };
     let sent = AtomicUsize::new(0);
-    let out = Output::new(Answers::new(Vec::new(alloc), &sent));
     let export = Export {
         name: given.name,
         read_only: given.read_only,
         nameable: u64::MAX,
     };
     let client = Client::new(given, &sent);
-    let Ok(served) = serve(threads, alloc, unnamed, export, KEEP, client, &out) else {
-        return Err(RowError::Memory);
-    };
+    let answers = Answers::new(Vec::new(alloc), &sent);
+    let (served, answers) = serve_client(threads, alloc, unnamed, export, client, answers)?;
     Ok(Left {
         done: served.done,
-        out: out.into_inner().into_sent(),
+        out: answers.into_sent(),
         closed: served.closed.is_ok(),
         device: served.parts.device,
     })
+}
+
+/// Serves a client, and gives its answers back. A function of its own, since the type of the output names the client's.
+fn serve_client<
+    D: Device + Send + Drop,
+    I: Read + Send + Drop,
+    O: io::Write + Send + Drop,
+    T: Threads + Wait + Sync,
+>(
+    threads: &T,
+    alloc: Global,
+    unnamed: UnnamedJournal<D, Unrecorded>,
+    export: Export<'_>,
+    client: I,
+    answers: O,
+) -> Result<(Served<D, Unrecorded>, O), RowError> {
+    let out = Output::new(answers);
+    let Ok(served) = serve(threads, alloc, unnamed, export, KEEP, client, &out) else {
+        return Err(RowError::Memory);
+    };
+    Ok((served, out.into_inner()))
 }
 
 /// All bytes of home.

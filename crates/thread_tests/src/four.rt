@@ -192,8 +192,12 @@ fn all_four<
     let [one, two, three, four] = seats;
     let (first, last) = join(
         rt,
-        || -> bool { first_two(rt, journal, one, two) },
-        || -> bool { last_two(rt, journal, three, four) },
+        || -> bool
+            requires { J.name.direct ≡ true }
+        { first_two(rt, journal, one, two) },
+        || -> bool
+            requires { J.name.direct ≡ true }
+        { last_two(rt, journal, three, four) },
     );
     first && last
 }
