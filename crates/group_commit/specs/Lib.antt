@@ -6,3 +6,4 @@ pub mod Calls
 pub mod During
 pub mod Rounds
 pub mod Begun
+pub mod Stops

@@ -101,7 +101,7 @@ impl<D: Device, R: Record> Journal<D, R> {
     }
 
     /// Takes so many checkpoint turns, or fewer: each only while a round is due, since one is under way or committed transactions that are
-    /// not released take at least half of the ring, or 640 of its blocks. Whoever takes commit turns makes room ahead of need by it: after
+    /// not released take at least half of the ring, or are 128. Whoever takes commit turns makes room ahead of need by it: after
     /// each commit, as many turns as the commit had. It takes no commit step, and leaves handles and credits. It makes the device calls of
     /// its rounds alone, and at each moment the crash image opens as between them.
     ///

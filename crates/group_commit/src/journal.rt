@@ -26,6 +26,7 @@ ghost use Rattle.journal_steps.specs.Values.{together};
 ghost use Rattle.group_commit.specs.AllTurns.{IsReadyToSeal};
 ghost use Rattle.group_commit.specs.Calls.{CallsForClose, engine_in};
 ghost use Rattle.group_commit.specs.During.{IsDuringRounds, IsDuringTurns};
+ghost use Rattle.group_commit.specs.Stops.{StopsHandles, StopsOneHandle};
 ghost use Rattle.group_commit.specs.Close.{CloseDid, CloseRefused, EndsWith, SealRefused, closing, locked_journal};
 ghost use Rattle.journal_front.specs.Front.{IsOpenHandle};
 ghost use Rattle.group_commit.specs.Values.{StatusIs};
@@ -233,6 +234,25 @@ impl<D: Device, R: Record> Journal<D, R> {
         let ticket = Ticket::new(handle.number(), handle.tid());
         self.front.stop_handle(handle);
         ticket
+    }
+
+    /// Ends all open handles, whoever holds them, and takes back their unused credits; each of them changes nothing from then on. It always
+    /// succeeds, even after a device failure.
+    /// Source: this project's own, for the close of a journal whose handles nobody has any more.
+    pub fn stop_all(&mut self)
+        ensures stops { StopsHandles D.state self.old self.new }
+        ensures none { self.new.journal.front.open_handles ≡ [] }
+        ensures device { self.new.device ≡ self.old.device }
+    {
+        while self.stop_first() {}
+    }
+
+    /// Ends the open handle that joined first. It returns whether one was open.
+    fn stop_first(&mut self) -> bool
+        ensures some { result ≡ true → StopsOneHandle D.state self.old self.new }
+        ensures none { result ≡ false → (self.old.journal.front.open_handles ≡ []) × (self.new ≡ self.old) }
+    {
+        self.front.stop_first()
     }
 
     /// Requests the commit of the ticket's transaction: if it is running, it takes no further handles.

@@ -8,7 +8,7 @@ use Rattle.journal_model.specs.Block.{IsAllowedBlock}
 use Rattle.journal_model.specs.Layout.{IsLayout}
 use Rattle.log_model.specs.Opening.{greatest_number}
 use Rattle.journal_world.specs.Front.{Front, FrontHappens, IsFirstTouch, MayJoin, held, next_handle}
-use Rattle.journal_world.specs.Front.FrontEvent.{Lock}
+use Rattle.journal_world.specs.Front.FrontEvent.{Lock, StopHandle}
 use Rattle.journal_front.specs.Values.{HandleValue}
 
 -- a front's invariant: at most `capacity` credits are held, each open handle's number was given out, handle and transaction numbers are
@@ -25,6 +25,12 @@ pub record IsFront (f : Front) : Type 0 where
 pub record IsOpenHandle (f : Front) (h : HandleValue) : Type 0 where
   pub left : lookup (nat_eq h.number) f.open_handles ≡ Some h.left
   pub transaction : h.tid ≡ f.running.tid
+
+-- one open handle, whoever holds it, has stopped
+pub record StopsOne (old new : Front) : Type 0 where
+  pub handle : ℕ
+  pub stops : FrontHappens old (StopHandle handle) new
+  pub fewer : length new.open_handles < length old.open_handles
 
 -- home has the block, and the log can hold its number
 abbrev pub MayTouch : Front → ℕ → Type 0

@@ -9,7 +9,7 @@ ghost use Rattle.journal_model.specs.Transaction.{copied, entries, last_effect, 
 ghost use Rattle.journal_world.specs.Front.{FrontHappens, IsOpen, IsUntouched, aborting, finishing, fresh_front, held, next_handle, reading_block, sealing, unfinished};
 ghost use Rattle.journal_world.specs.Front.FrontEvent.{ExtendHandle, GiveBack, Join, Lock, Raise, Reserve, RevokeBlock, StopHandle, WriteBlock};
 ghost use Rattle.journal_world.specs.Journal.{batch_of};
-ghost use Rattle.journal_front.specs.Front.{ExtendRefused, IsKeptOut, IsOpenHandle, JoinRefused, MayExtend, MayStep, MayTouch, RequestsCommit, ReserveRefused, Spends, TouchRefused};
+ghost use Rattle.journal_front.specs.Front.{ExtendRefused, IsKeptOut, IsOpenHandle, JoinRefused, MayExtend, MayStep, MayTouch, RequestsCommit, ReserveRefused, Spends, StopsOne, TouchRefused};
 
 use crate::Transaction;
 use crate::handle::{Credits, Handle};
@@ -360,6 +360,26 @@ impl<R: Record> Front<R> {
     {
         self.open_handles.shift_remove(&handle);
         self.held -= left;
+    }
+
+    /// Stops the open handle that joined first, whoever holds it. It returns whether one was open.
+    pub fn stop_first(&mut self) -> bool
+        ensures some { result ≡ true → StopsOne self.old self.new }
+        ensures none { result ≡ false → (self.old.open_handles ≡ []) × (self.new ≡ self.old) }
+        ensures given { self.new.given ≡ self.old.given }
+        ensures running { self.new.running ≡ self.old.running }
+    {
+        let first = match self.open_handles.get_index(0) {
+            Some((handle, left)) => Some((*handle, *left)),
+            None => None,
+        };
+        match first {
+            Some((handle, left)) => {
+                self.stop(handle, left);
+                true
+            }
+            None => false,
+        }
     }
 
     /// Locks the running transaction if a handle has joined it: it takes no further handles.

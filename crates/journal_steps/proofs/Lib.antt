@@ -11,3 +11,4 @@ mod Noting
 mod Quarter
 mod Rounding
 mod Sealing
+mod Unreleased

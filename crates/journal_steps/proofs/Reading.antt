@@ -63,7 +63,7 @@ module _ (e : Engine) (ts : History) (b : ℕ) (plain : IsPlain e) (are : AreBat
       (contains-map (λ p. p.0) newest.copy.batch.entries (b, Copy w) newest.copy.copy)
 
   -- if the last entry is a copy, it is the newest
-  last-newest : (i : ℕ) (v : List ℕ) → IsLastIn (take e.committed e.accepted) b i (Copy v) → IsNewestCopy e i b v
+  pub last-newest : (i : ℕ) (v : List ℕ) → IsLastIn (take e.committed e.accepted) b i (Copy v) → IsNewestCopy e i b v
   last-newest i v l =
       let below : i < e.committed = take-below e.committed i e.accepted l.batch l.stands in
       record {
@@ -78,7 +78,7 @@ module _ (e : Engine) (ts : History) (b : ℕ) (plain : IsPlain e) (are : AreBat
       same_Some x y (sym (lookup-from_Contains nat_eq_equiv b x c.entries batch.once one) ∙ lookup-from_Contains nat_eq_equiv b y c.entries batch.once other)
 
   -- if the last entry is a revoke, there is no newest copy
-  revoked-newest : (i : ℕ) → IsLastIn (take e.committed e.accepted) b i Revoke → (j : ℕ) (w : List ℕ) → IsNewestCopy e j b w → ⊥
+  pub revoked-newest : (i : ℕ) → IsLastIn (take e.committed e.accepted) b i Revoke → (j : ℕ) (w : List ℕ) → IsNewestCopy e j b w → ⊥
   revoked-newest i l j w newest =
       let below : i < e.committed = take-below e.committed i e.accepted l.batch l.stands in
       let stands : slice_get e.accepted i ≡ Some l.batch = sym (get-take e.committed e.accepted i below) ∙ l.stands in

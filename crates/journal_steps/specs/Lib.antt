@@ -1,5 +1,6 @@
 pub mod Direct
 pub mod Journal
 pub mod Legal
+pub mod Unreleased
 pub mod Values
 pub mod Handles

@@ -18,6 +18,7 @@ ghost use Rattle.journal_steps.specs.declared.turn.CheckTurn.TheVariants.{Idle a
 ghost use Rattle.journal_steps.specs.Journal.{Agrees, CheckTurnDid, CheckTurnRefused, Does, FitsQuarter, HandsOut, HasRoomFor, HoldsCopy, IsDuringCheckTurn, IsDuringTurn, LeavesFewerRounds, NewestRefused, NoCopy, RegistersRead, OpensNow, ReadRefused, ReadsNewest, SealDid, SealIsDue, TurnDid, TurnRefused, need_of};
 ghost use Rattle.journal_steps.specs.Legal.{KeepsLegal};
 ghost use Rattle.journal_steps.specs.Direct.{DirectSyncRefused, DirectWriteRefused, IsDuringDirectSync, IsDuringDirectWrite, MayWriteDirectly};
+ghost use Rattle.journal_steps.specs.Unreleased.{KeptUntold, TellsKept};
 ghost use Rattle.journal_front.specs.Front.{MayStep};
 ghost use Rattle.journal_steps.specs.Values.{together};
 
@@ -176,6 +177,35 @@ pub fn read_newest<D: Device, R: Record>(
         return Err(e);
     }
     Ok(())
+}
+
+/// Whether the block's last entry in the transactions that are not released is a copy. Older ones don't count.
+///
+/// # Errors
+///
+/// `Aborted`, `BadBlock` as in `read`.
+/// Source: this project's own.
+pub fn keeps_copy<D: Device, R: Record>(
+    front: &Front<R>,
+    engine: &Engine<D>,
+    block: BlockNo,
+) -> Result<bool, JournalError>
+    requires { Agrees (together front.now engine.now).journal }
+    ensures ok { IfOk result (λ kept. TellsKept (together front.now engine.now).journal block kept) }
+    ensures err { IfErr result (KeptUntold (together front.now engine.now).journal block) }
+{
+    engine.recall_invariant();
+    if front.is_aborted() {
+        return Err(JournalError::Aborted);
+    }
+    if !front.may_touch(block) {
+        return Err(JournalError::BadBlock);
+    }
+    match front.newest(block) {
+        Some(Entry::Copy(_)) => Ok(true),
+        Some(Entry::Revoke) => Ok(false),
+        None => Ok(engine.has_pending(block)),
+    }
 }
 
 /// Takes the next commit step: one device call of a commit, or the seal of a transaction that is locked without open handles.

@@ -1,8 +1,9 @@
 -- What a read of a block gives: its pending copy, else what home reads.
 use Rattle.std.proofs.Common.{sym, ap, subst, ◌∙◌, inl, inr}
-use Rattle.std.specs.Prelude.{◌≡◌, ℕ, ◌<◌, true, List, None}
-use Rattle.std.proofs.lemmas.Bool.{cases_lt}
+use Rattle.std.specs.Prelude.{◌≡◌, ◌↔◌, ℕ, ◌<◌, IsTrue, true, List, None, is_some}
+use Rattle.std.proofs.lemmas.Bool.{cases_lt, true≢false}
 use Rattle.std.proofs.lemmas.Option.{none-some}
+use Rattle.journal_model.proofs.ListElements.{option-known}
 use Rattle.journal_model.specs.declared.number.Area.TheVariants.{Home}
 use Rattle.journal_model.specs.Disk.{Cell, Disk, Shape}
 use Rattle.checkpoint.specs.Pending.{PendingValue, newest_of}
@@ -13,6 +14,7 @@ use Rattle.journal_world.proofs.Faults.{abort-sound}
 use Rattle.journal_world.proofs.Pending.{newest-bytes}
 use Rattle.log_ledger.specs.declared.ledger.Ledger.{Ledger}
 use Rattle.log_ledger.specs.Ledger.{IsPlaced, KeepsPending, engine_of}
+use Rattle.log_engine.specs.Engine.{HasPending}
 
 -- an engine whose read failed, and changed nothing, is sound
 pub aborted-sound : (s t : Shape) (l : Ledger) (disk after : Disk) → t ≡ s → after ≡ disk → Sound (engine_of s l) disk →
@@ -49,4 +51,15 @@ home-read e p disk b v keeps none sound is = record {
         elim (cases_lt i e.released) [
           | inl below ↦ below
           | inr more ↦ absurd (none-pending e p i b w keeps none (record { newest = newest; unreleased = more }))
+        ]
+
+-- a copy is found exactly if one is pending
+pub found-pending : (e : Engine) (p : PendingValue) (b : ℕ) → KeepsPending e p → IsTrue (is_some (newest_of p b)) ↔ HasPending e b
+found-pending e p b keeps = (there, λ has. let one = keeps.all has.transaction b has.bytes has.pending in ap is_some one.1)
+  where
+    there : IsTrue (is_some (newest_of p b)) → HasPending e b
+    there found =
+        elim (option-known (newest_of p b)) [
+          | inl none ↦ absurd (true≢false (sym found ∙ ap is_some none))
+          | inr (v, some) ↦ let one = keeps.placed b v some in record { transaction = one.0; bytes = one.2.bytes; pending = one.2.pending }
         ]

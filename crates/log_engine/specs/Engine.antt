@@ -63,6 +63,12 @@ pub data ReadRefused {D : Type 0} (state : D → DeviceState) (old : EngineValue
       new.engine ≡ record old.engine { aborted = true } → (state new.device).faults ≡ one_more_fault (state old.device).faults →
       ReadRefused state old b new Device
 
+-- a copy of the block is pending
+pub record HasPending (e : Engine) (b : ℕ) : Type 0 where
+  pub transaction : ℕ  -- from 0 since the opening
+  pub bytes : List ℕ
+  pub pending : IsPending e transaction b bytes
+
 -- a moment of a commit step: home is as it was, and each crash image opens to a number from the committed to the accepted transactions
 pub record IsDuringCommit (e : Engine) (old disk : Disk) : Type 0 where
   pub home : KeepsHome old disk

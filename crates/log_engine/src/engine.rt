@@ -17,7 +17,7 @@ ghost use Rattle.log_ledger.specs.declared.progress.Progress.TheVariants.{Idle a
 ghost use Rattle.log_ledger.specs.Steps.{MayHandOver};
 ghost use Rattle.block_device.specs.Call.{MakesOneCall, OnlyReads};
 ghost use Rattle.log_engine.specs.Close.{CloseDid, CloseRefused, IsAllReleased, IsClosedLog, IsDuringClose, MakesCloseCalls};
-ghost use Rattle.log_engine.specs.Engine.{AcceptRefused, IsDuringCommit, IsDuringRound, MayTouch, ReadRefused, RoundDid, RoundRefused, StepDid, StepRefused};
+ghost use Rattle.log_engine.specs.Engine.{AcceptRefused, HasPending, IsDuringCommit, IsDuringRound, MayTouch, ReadRefused, RoundDid, RoundRefused, StepDid, StepRefused};
 ghost use Rattle.log_engine.specs.Left.{LeavesFewer, commit_calls, round_calls};
 ghost use Rattle.log_engine.specs.Rounds.{IsRoundDue};
 
@@ -175,13 +175,14 @@ impl<D: Device> Engine<D> {
     }
 
     /// Whether a checkpoint round is due: one is under way, or committed transactions that are not released take at least half of the ring,
-    /// or 640 of its blocks.
+    /// or are 128. So a commit in a hundred at most waits for a round's flush of home, unless the ring is short.
     pub fn is_round_due(&self) -> bool
         ensures { IsTrue result ↔ IsRoundDue self.now.engine }
     {
         let taken = self.ledger.start.saturating_sub(self.ledger.ring.tail());
-        taken >= 640
-            || taken >= self.ledger.ring.blocks() / 2
+        let unreleased = self.ledger.committed.saturating_sub(self.ledger.released);
+        taken >= self.ledger.ring.blocks() / 2
+            || unreleased >= 128
             || !matches!(self.ledger.round, Round::Idle)
     }
 
@@ -331,6 +332,13 @@ impl<D: Device> Engine<D> {
             return Err(JournalError::Device);
         }
         Ok(())
+    }
+
+    /// Whether a copy of the block is pending: the newest committed one, not released. One look-up decides, without a device call.
+    pub fn has_pending(&self, block: BlockNo) -> bool
+        ensures { IsTrue result ↔ HasPending self.now.engine block }
+    {
+        self.ledger.pending.lookup(block).is_some()
     }
 
     /// Closes the log, asked once all that was handed over is committed and released, and hands out the device. Where the
