@@ -192,6 +192,7 @@ def streams():
     yield "a write with FUA", c().go().request(1, 0xFFFFFFFFFFFFFFFF, 2048, data=b"F" * 1024, flags=1).request(2, 8)
     yield "zeros over more blocks than one handle has credits, with FUA", c().go().request(1, 1, 0, data=b"A" * SIZE).request(6, 2, 700, SIZE - 1400, flags=3).request(2, 8)
     yield "a trim drops whole blocks", c().go().request(1, 1, 0, data=b"A" * 2048).request(4, 2, 500, 1548).request(0, 3, 0, 3072).request(2, 4)
+    yield "a trim of all blocks, of which one was written", c().go().request(1, 1, 3072, data=b"A" * 1024).request(4, 2, 0, SIZE).request(0, 3, 2048, 3072).request(3, 4).request(2, 5)
     yield "a trim with FUA", c().go().request(1, 1, 3072, data=b"A" * 1024).request(4, 2, 3072, 1024, flags=1).request(2, 3)
     yield "a write over a part of a block that was trimmed", c().go().request(1, 1, 3072, data=b"A" * 1024).request(4, 2, 3072, 1024).request(1, 3, 3500, data=b"B" * 10).request(0, 4, 3072, 1024).request(3, 5).request(2, 6)
     yield "bytes past the end", c().go().request(0, 1, SIZE - 5, 10).request(1, 2, SIZE - 5, data=b"0123456789").request(4, 3, SIZE, 1).request(6, 4, 1, SIZE).request(0, 5, 2**64 - 1, 2).request(1, 6, 2**64 - 1, data=b"xx").request(0, 7, SIZE - 5, 5).request(2, 8)

@@ -7,11 +7,11 @@ use Rattle.block_device.specs.State.{DeviceState}
 use Rattle.journal_front.specs.Values.{HandleValue}
 use Rattle.shared_journal.specs.Refusals.{MayHavePaid}
 use Rattle.shared_journal.specs.Refusals.MayHavePaid.{Paid, Unpaid}
-use Rattle.byte_volume.specs.Refusals.{CutRefused, HandleRefused, IsAmong, MeetsRange, RevokeRefused, StepRefused, TrimRefused, WriteRefused}
+use Rattle.byte_volume.specs.Refusals.{AskRefused, BlocksRefused, CutRefused, HandleRefused, IsAmong, MeetsRange, RevokeRefused, StepRefused, TrimRefused, WriteRefused}
 use Rattle.byte_volume.specs.Refusals.CutRefused.{NoRest, RestUnread}
 use Rattle.byte_volume.specs.Refusals.HandleRefused.{NoPlace, NotStarted, OfStep}
 use Rattle.byte_volume.specs.Refusals.RevokeRefused.{AtStep, NoHandle, NoPlace as NoPlaceOfOne, PastEnd as NumbersPastEnd}
-use Rattle.byte_volume.specs.Refusals.TrimRefused.{OfHandle as OfTrim}
+use Rattle.byte_volume.specs.Refusals.TrimRefused.{OfBlocks}
 use Rattle.byte_volume.specs.Refusals.WriteRefused.{NoBuffer, OfHandle, OfHead, OfTail, PastEnd}
 use Rattle.byte_volume.specs.Writing.{first_whole, whole_blocks}
 use Rattle.byte_volume.proofs.WholeBlocks.{meets}
@@ -39,11 +39,17 @@ some_blocks capacity first blocks done count e fits few within (NoHandle why) = 
 some_blocks capacity first blocks done count e fits few within (AtStep why) =
     OfStep (step_wider (IsAmong (first + done) count) (IsAmong first blocks) e (λ b among. (omega (arith, among.0), omega (arith, among.1, few))) why)
 
--- one handle of those that revoke the whole blocks of a range
+-- one block of several is not told of
+pub some_asked : {D : Type 0} (first blocks done most : ℕ) (e : JournalError) → done + most ≤ blocks → AskRefused D (IsAmong (first + done) most) e →
+    AskRefused D (IsAmong first blocks) e
+some_asked first blocks done most e few why =
+    record { b = why.b; its = (omega (arith, why.its.0), omega (arith, why.its.1, few)); refused = why.refused }
+
+-- the trim of the whole blocks of a range
 pub trim_refused : {T : Type 0} (D : Type 0) (size capacity offset n first blocks : ℕ) (result : Result T JournalError) → first ≡ first_whole size offset →
-    blocks ≡ whole_blocks size offset n → IfErr result (HandleRefused D capacity (IsAmong first blocks)) → IfErr result (TrimRefused D size capacity offset n)
+    blocks ≡ whole_blocks size offset n → IfErr result (BlocksRefused D capacity first blocks) → IfErr result (TrimRefused D size capacity offset n)
 trim_refused D size capacity offset n first blocks result begins many =
-    IfErr-weaker result _ _ (λ e why. OfTrim (subst₂ (λ (f b : ℕ). HandleRefused D capacity (IsAmong f b) e) begins many why))
+    IfErr-weaker result _ _ (λ e why. OfBlocks (subst₂ (λ (f b : ℕ). BlocksRefused D capacity f b e) begins many why))
 
 -- the handle that writes the whole blocks with a range, m bytes; `s` is another name of the size
 pub write_refused : {D T : Type 0} (state : D → DeviceState) (size s capacity offset n m : ℕ) (result : Result T JournalError) → s ≡ size → 0 < size →

@@ -5,6 +5,7 @@ use Rattle.journal_model.specs.declared.refusal.JournalError.TheVariants.{BadBlo
 use Rattle.block_device.specs.State.{DeviceState}
 use Rattle.journal_front.specs.Front.{IsOpenHandle, TouchRefused}
 use Rattle.journal_front.specs.Values.{HandleValue}
+use Rattle.journal_steps.specs.Unreleased.{KeptUntold}
 use Rattle.journal_steps.specs.Values.{JournalValue}
 use Rattle.shared_journal.specs.Moments.{AtOneMoment}
 use Rattle.volume_service.specs.Session.{NotOpened}
@@ -59,10 +60,21 @@ pub data WriteRefused {D : Type 0} (state : D → DeviceState) (size capacity of
   OfTail : CutRefused state size (offset + n) e → WriteRefused state size capacity offset n e
   OfHandle : HandleRefused D capacity (MeetsRange size offset n) e → WriteRefused state size capacity offset n e
 
--- why a trim of n bytes is refused: the range ends past 2^64, or a handle that revokes its whole blocks ended early
+-- at one moment under the locks, it was not told whether a block with P keeps a copy; nothing changed
+pub record AskRefused (D : Type 0) (P : ℕ → Type 0) (e : JournalError) : Type 0 where
+  pub b : ℕ
+  pub its : P b
+  pub refused : AtOneMoment (λ (old new : JournalValue D). KeptUntold old.journal b e × (new ≡ old))
+
+-- why a trim of this many blocks from block `first` on ends early: it was not told of one, or a handle that revokes some ended early
+pub data BlocksRefused (D : Type 0) (capacity first count : ℕ) (e : JournalError) : Type 0 where
+  OfAsk : AskRefused D (IsAmong first count) e → BlocksRefused D capacity first count e
+  OfHandle : HandleRefused D capacity (IsAmong first count) e → BlocksRefused D capacity first count e
+
+-- why a trim of n bytes is refused: the range ends past 2^64, or that of its whole blocks ended early
 pub data TrimRefused (D : Type 0) (size capacity offset n : ℕ) (e : JournalError) : Type 0 where
   PastEnd : 2 ^ 64 ≤ offset + n → e ≡ BadBlock → TrimRefused D size capacity offset n e
-  OfHandle : HandleRefused D capacity (IsAmong (first_whole size offset) (whole_blocks size offset n)) e → TrimRefused D size capacity offset n e
+  OfBlocks : BlocksRefused D capacity (first_whole size offset) (whole_blocks size offset n) e → TrimRefused D size capacity offset n e
 
 -- why a revoke of this many blocks through one handle is refused: the numbers pass 2^64, there is no memory for its ticket, no handle with so
 -- many credits could be started, or a step was refused

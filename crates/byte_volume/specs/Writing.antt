@@ -1,4 +1,4 @@
--- What a write of a byte range does.
+-- What a write or a trim of a byte range does.
 use Rattle.std.specs.Prelude.{◌≡◌, ◌≤◌, ◌<◌, ◌+◌, ◌-◌, ◌*◌, ◌/◌, ◌%◌, ◌++◌, ℕ, zero, suc, List, [], ◌∷◌, length, take, drop}
 use Rattle.std.specs.Int.{div_ceil}
 use Rattle.std.specs.List.{AllByRecursion}
@@ -6,7 +6,10 @@ use Rattle.block_device.specs.State.{DeviceState}
 use Rattle.journal_model.specs.declared.transaction.Step.{Step}
 use Rattle.handle.specs.Name.{JournalId}
 use Rattle.journal_world.specs.Front.{revoke_step, write_step}
+use Rattle.journal_steps.specs.Unreleased.{KeepsCopy}
+use Rattle.journal_steps.specs.Values.{JournalValue}
 use Rattle.locked_journal.specs.Known.{TicketKnown}
+use Rattle.shared_journal.specs.Moments.{AtItsMoment}
 use Rattle.byte_volume.specs.Reading.{ReadsPart}
 
 -- block k of these bytes, in blocks of this size
@@ -123,17 +126,24 @@ pub data WritesSome {D : Type 0} (state : D → DeviceState) (honest : D → Typ
       BeginsRange state honest name size (offset + length before) piece ticket → tickets ≡ earlier ++ ticket ∷ [] → bytes ≡ before ++ piece ++ after →
       WritesSome state honest name size offset bytes tickets
 
--- the handles of these tickets revoked this many blocks from block `first` on, each block by one step, in order
-pub data RevokesBlocks (first : ℕ) : List TicketKnown → ℕ → Type 0 where
-  NoBlock : RevokesBlocks first [] 0
-  Further : (earlier : List TicketKnown) (ticket : TicketKnown) (tickets : List TicketKnown) (n m k : ℕ) → RevokesBlocks first earlier n →
-      ticket.steps ≡ revoke_steps ticket.ticket.handle (first + n) m → tickets ≡ earlier ++ ticket ∷ [] → k ≡ n + m → RevokesBlocks first tickets k
+-- at a moment of the named journal, the block kept no copy
+abbrev pub KeptNone : {D : Type 0} → (D → DeviceState) → (D → Type 0) → JournalId → ℕ → Type 0
+KeptNone {D} state honest name b = AtItsMoment state honest name (λ (old new : JournalValue D). (KeepsCopy old.journal b → ⊥) × (new ≡ old))
 
--- they revoked the first of this many blocks
-pub record RevokesSome (first blocks : ℕ) (tickets : List TicketKnown) : Type 0 where
+-- this many blocks from block `first` on are trimmed, in order: the handles of these tickets revoked each by one step, and did nothing else; or
+-- it kept no copy, and is left out
+pub data TrimsBlocks {D : Type 0} (state : D → DeviceState) (honest : D → Type 0) (name : JournalId) (first : ℕ) : List TicketKnown → ℕ → Type 0 where
+  NoBlock : TrimsBlocks state honest name first [] 0
+  Further : (earlier : List TicketKnown) (ticket : TicketKnown) (tickets : List TicketKnown) (n m k : ℕ) → TrimsBlocks state honest name first earlier n →
+      ticket.steps ≡ revoke_steps ticket.ticket.handle (first + n) m → tickets ≡ earlier ++ ticket ∷ [] → k ≡ n + m → TrimsBlocks state honest name first tickets k
+  LeftOut : (tickets : List TicketKnown) (n k : ℕ) → TrimsBlocks state honest name first tickets n → KeptNone state honest name (first + n) → k ≡ n + 1 →
+      TrimsBlocks state honest name first tickets k
+
+-- the first of this many blocks are trimmed
+pub record TrimsSome {D : Type 0} (state : D → DeviceState) (honest : D → Type 0) (name : JournalId) (first blocks : ℕ) (tickets : List TicketKnown) : Type 0 where
   pub count : ℕ
   pub few : count ≤ blocks
-  pub revoked : RevokesBlocks first tickets count
+  pub trimmed : TrimsBlocks state honest name first tickets count
 
 -- the first block that begins at or after byte `offset`, and how many blocks lie whole in the n bytes from there on
 abbrev pub first_whole : ℕ → ℕ → ℕ

@@ -6,10 +6,9 @@ ghost use Rattle.byte_volume.specs.Refusals.{CouldNotStart};
 use block_device::Device;
 use journal_model::JournalError;
 use journal_model::layout::GREATEST_NUMBER;
-use journal_workers::Gate;
 use shared_journal::{JournalName, Record, SharedHandle};
 use std::sync::Wait;
-use volume_service::Session;
+use volume_service::{Gate, Session};
 
 /// The last transaction that a later opening takes while it is not home: the number after it has to be below the greatest.
 pub const LAST_TAKEN: u32 = GREATEST_NUMBER - 2;

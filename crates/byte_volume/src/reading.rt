@@ -5,11 +5,10 @@ ghost use Rattle.byte_volume.specs.Refusals.{PartRefused};
 
 use block_device::Device;
 use journal_model::{BlockNo, JournalError};
-use journal_workers::Gate;
 use shared_journal::{JournalName, Record};
 use std::alloc::Global;
 use std::sync::Wait;
-use volume_service::Session;
+use volume_service::{Gate, Session};
 
 /// Reads a block's newest bytes; zeros if it has an unfinished revoke.
 fn read_block<J: JournalName, D: Device, R: Record, G: Gate, W: Wait>(

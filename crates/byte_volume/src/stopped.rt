@@ -1,14 +1,13 @@
 //! The greatest transaction of stopped handles, and the receipt for its commit.
 ghost use Rattle.std.specs.Prelude.{◌≡◌, ◌≤◌, max, IfErr, IfOk};
-ghost use Rattle.volume_service.specs.Session.{NotAwaited};
+ghost use Rattle.shared_journal.specs.Waiting.{NotAwaited};
 
 use block_device::Device;
 use journal_model::{JournalError, Tid};
-use journal_workers::Gate;
 use shared_journal::{JournalName, Record};
 use std::marker::Model;
 use std::sync::Wait;
-use volume_service::Session;
+use volume_service::{Gate, Session};
 
 /// A bound: each noted handle's transaction has at most this number.
 #[derive(Debug, Drop)]
@@ -66,11 +65,11 @@ impl Model for Committed {
 }
 
 impl Committed {
-    /// Commits all transactions up to a number, in this thread as far as it can, and waits for the rest.
+    /// Commits all transactions up to a number, or waits until other threads have.
     ///
     /// # Errors
     ///
-    /// Those of `Session::commit_up_to`.
+    /// Those of `Session::wait_for`.
     pub fn wait_for<J: JournalName, D: Device, R: Record, G: Gate, W: Wait>(
         rt: &W,
         session: &mut Session<'_, J, D, R, G>,
@@ -80,7 +79,7 @@ impl Committed {
         ensures seen { IfOk result (λ receipt. receipt ≤ session.new.seat.seen) }
         ensures err { IfErr result (NotAwaited D) }
     {
-        match session.commit_up_to(rt, upto) {
+        match session.wait_for(rt, upto) {
             Ok(()) => Ok(Committed { upto }),
             Err(e) => Err(e),
         }

@@ -1,21 +1,21 @@
-//! Revokes the whole blocks of a byte range.
-ghost use Rattle.std.specs.Prelude.{◌≡◌, ◌≤◌, ◌<◌, ◌+◌, ◌^◌, ◌++◌, [], IfErr, OnErr, OnOk};
+//! Trims the whole blocks of a byte range.
+ghost use Rattle.std.specs.Prelude.{◌≡◌, ◌≤◌, ◌<◌, ◌+◌, ◌^◌, ◌++◌, [], IfErr, IfOk, OnErr, OnOk};
 ghost use Rattle.byte_volume.specs.Numbers.{last_taken};
-ghost use Rattle.byte_volume.specs.Refusals.{HandleRefused, IsAmong, RevokeRefused, StepRefused, TrimRefused};
-ghost use Rattle.byte_volume.specs.Writing.{AddsFirst, AddsTicket, AreNoted, MayAddTicket, RevokesBlocks, RevokesFirst, RevokesSome, first_whole, revoke_steps, whole_blocks};
+ghost use Rattle.byte_volume.specs.Refusals.{AskRefused, BlocksRefused, IsAmong, RevokeRefused, StepRefused, TrimRefused};
+ghost use Rattle.byte_volume.specs.Writing.{AddsFirst, AddsTicket, AreNoted, KeptNone, MayAddTicket, RevokesFirst, TrimsBlocks, TrimsSome, first_whole, revoke_steps, whole_blocks};
 
 use crate::numbers::start;
 use crate::stopped::Stopped;
 use crate::tickets::Tickets;
 use block_device::Device;
 use journal_model::{BlockNo, JournalError};
-use journal_workers::Gate;
 use shared_journal::{JournalName, Record, SharedHandle, SharedTicket};
 use std::sync::Wait;
-use volume_service::Session;
+use volume_service::{Gate, Session};
 
-/// Revokes exactly the blocks that lie whole in a byte range, and writes nothing. A block reads as zeros until its revoke is finished, then
-/// as home has it. `tickets` has those of its handles afterwards, and no others.
+/// Trims exactly the blocks that lie whole in a byte range, and writes nothing. Those that keep a copy (`Session::keeps_copy`) are revoked,
+/// the others left out. A revoked block reads as zeros until its revoke is finished, then as home has it. `tickets` has those of its handles
+/// afterwards, and no others.
 ///
 /// # Errors
 ///
@@ -28,8 +28,8 @@ pub fn trim_range<J: JournalName, D: Device, R: Record, G: Gate, W: Wait>(
     stopped: &mut Stopped,
     tickets: &mut Tickets<J, R>,
 ) -> Result<(), JournalError>
-    ensures blocks { OnOk result (RevokesBlocks (first_whole J.name.shape.block_size offset) tickets.new (whole_blocks J.name.shape.block_size offset count)) }
-    ensures left { OnErr result (RevokesSome (first_whole J.name.shape.block_size offset) (whole_blocks J.name.shape.block_size offset count) tickets.new) }
+    ensures blocks { OnOk result (TrimsBlocks D.state D.honest J.name (first_whole J.name.shape.block_size offset) tickets.new (whole_blocks J.name.shape.block_size offset count)) }
+    ensures left { OnErr result (TrimsSome D.state D.honest J.name (first_whole J.name.shape.block_size offset) (whole_blocks J.name.shape.block_size offset count) tickets.new) }
     ensures noted { AreNoted stopped.new tickets.new }
     ensures kept { stopped.old ≤ stopped.new }
     ensures taken { stopped.old ≤ last_taken → stopped.new ≤ last_taken }
@@ -42,11 +42,11 @@ pub fn trim_range<J: JournalName, D: Device, R: Record, G: Gate, W: Wait>(
     let size = session.block_size() as u64;
     let first = offset.div_ceil(size);
     let blocks = (end / size).saturating_sub(first);
-    revoke_pieces(rt, session, first, blocks, stopped, &mut tickets.list)
+    trim_blocks(rt, session, first, blocks, stopped, &mut tickets.list)
 }
 
-/// Revokes this many blocks from block `first` on, through one or more handles, in order.
-fn revoke_pieces<J: JournalName, D: Device, R: Record, G: Gate, W: Wait>(
+/// Trims this many blocks from block `first` on, in order. Blocks in a row that keep a copy are revoked through one or more handles.
+fn trim_blocks<J: JournalName, D: Device, R: Record, G: Gate, W: Wait>(
     rt: &W,
     session: &mut Session<'_, J, D, R, G>,
     first: u64,
@@ -56,20 +56,46 @@ fn revoke_pieces<J: JournalName, D: Device, R: Record, G: Gate, W: Wait>(
 ) -> Result<(), JournalError>
     requires fits { first + blocks < 2 ^ 64 }
     requires empty { tickets.old.items ≡ [] }
-    ensures blocks { OnOk result (RevokesBlocks first tickets.new.items blocks) }
-    ensures left { OnErr result (RevokesSome first blocks tickets.new.items) }
+    ensures blocks { OnOk result (TrimsBlocks D.state D.honest J.name first tickets.new.items blocks) }
+    ensures left { OnErr result (TrimsSome D.state D.honest J.name first blocks tickets.new.items) }
     ensures noted { AreNoted stopped.new tickets.new.items }
     ensures kept { stopped.old ≤ stopped.new }
     ensures taken { stopped.old ≤ last_taken → stopped.new ≤ last_taken }
-    ensures err { IfErr result (HandleRefused D J.name.capacity (IsAmong first blocks)) }
+    ensures err { IfErr result (BlocksRefused D J.name.capacity first blocks) }
 {
     let mut done = 0;
     while done < blocks {
-        let some = session.capacity().min(blocks - done);
-        revoke_once(rt, session, first + done, some, stopped, tickets)?;
-        done += some;
+        let most = session.capacity().min(blocks - done);
+        let kept = count_kept(rt, session, first + done, most)?;
+        if kept == 0 {
+            done += 1;
+            continue;
+        }
+        revoke_once(rt, session, first + done, kept, stopped, tickets)?;
+        done += kept;
     }
     Ok(())
+}
+
+/// How many blocks in a row from block `first` on keep a copy, at most `most`.
+fn count_kept<J: JournalName, D: Device, R: Record, G: Gate, W: Wait>(
+    rt: &W,
+    session: &Session<'_, J, D, R, G>,
+    first: u64,
+    most: u64,
+) -> Result<u64, JournalError>
+    requires some { 0 < most }
+    requires fits { first + most < 2 ^ 64 }
+    ensures few { IfOk result (λ kept. kept ≤ most) }
+    ensures none { IfOk result (λ kept. kept ≡ 0 → KeptNone D.state D.honest J.name first) }
+    ensures err { IfErr result (AskRefused D (IsAmong first most)) }
+{
+    for k in 0..most {
+        if !session.keeps_copy(rt, BlockNo(first + k))? {
+            return Ok(k);
+        }
+    }
+    Ok(most)
 }
 
 /// Revokes this many blocks from block `first` on through one handle, which is stopped and noted even if a revoke is refused. `tickets` has

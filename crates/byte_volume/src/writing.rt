@@ -10,11 +10,10 @@ use crate::stopped::Stopped;
 use crate::tickets::Tickets;
 use block_device::Device;
 use journal_model::{BlockNo, JournalError};
-use journal_workers::Gate;
 use shared_journal::{JournalName, Record, SharedHandle, SharedTicket};
 use std::alloc::Global;
 use std::sync::Wait;
-use volume_service::Session;
+use volume_service::{Gate, Session};
 
 /// Writes bytes from byte `offset` on. If one handle has credits for the range's blocks, it alone writes exactly these, each whole; the
 /// rest of the first and last stays as a read finds it. A longer range is written in pieces, in order, each by such a handle. Other clients

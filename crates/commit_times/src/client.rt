@@ -1,277 +1,266 @@
-//! A client: one thread with a seat of its own, which makes one durable change after another.
+//! A client: it makes one durable change after another through its session.
 ghost use Rattle.std.specs.Prelude.{◌≤◌, IfOk};
 
 use crate::bench::Done;
-use crate::leader::{Events, Rounds, lead};
-use crate::spin;
-use crate::spin::LOOKS;
 use crate::work::Plan;
 use block_device::Device;
 use jbench_words::fault::Fault;
 use jbench_words::numbers::LAST_TAKEN;
+use jbench_words::watch::{Watch, WatchStep};
 use jbench_words::words::BenchWords;
-use journal_model::{BlockNo, JournalError};
-use shared_journal::{Journal, JournalName, Seat, SharedHandle, SharedReceipt, SharedTicket};
+use journal_model::{JournalError, Tid};
+use shared_journal::{JournalName, Record, SharedHandle, SharedReceipt, SharedTicket};
 use std::alloc::Global;
 use std::sync::atomic::{AtomicU64, Ordering};
-use std::sync::{Mutex, MutexGuard, Wait};
-use std::thread;
+use std::sync::{Mutex, Wait};
 use std::time::{Clock, Duration, Instant};
+use volume_service::{Client, Gate, Session};
 
 /// What all clients share.
 #[derive(Drop)]
-pub(crate) struct Shared<'s, J: JournalName, D: Device, C> {
+pub(crate) struct Shared<'s, C, H> {
     /// The clock that all clients read.
-    pub(crate) clock: &'s C,
-    /// The journal that all clients share.
-    pub(crate) journal: &'s Journal<J, D>,
-    /// Its holder takes the turns.
-    pub(crate) turns: Mutex<Rounds>,
-    /// What the others wait for.
-    pub(crate) events: Events,
-    /// Its holder makes a change.
-    pub(crate) changes: Mutex<()>,
+    clock: &'s C,
     /// When the work began.
-    pub(crate) begun: Instant,
+    begun: Instant,
     /// The most transactions of all clients.
-    pub(crate) most: u64,
+    most: u64,
     /// After this time no transaction begins, if it is given.
-    pub(crate) most_time: Option<Duration>,
+    most_time: Option<Duration>,
+    /// A client that has joined a later transaction than this begins no other. Once the first has, each of the others may join once more,
+    /// and each time the number rises by one at most. So the last one is still one that a later opening takes.
+    last: Tid,
     /// How many transactions were begun, or refused since there were enough.
-    pub(crate) started: AtomicU64,
+    started: AtomicU64,
     /// How many are durable.
-    pub(crate) durable: AtomicU64,
-    /// 1 once a client was refused something: the others end too.
-    pub(crate) refused: AtomicU64,
+    durable: AtomicU64,
+    /// 1 once a client has ended, or could not be started: the others end too.
+    ended: AtomicU64,
+    /// Who learns the progress.
+    told: Mutex<Told<H>>,
 }
 
-impl<'s, J: JournalName, D: Device, C> Shared<'s, J, D, C> {
-    /// The shared part of clients that begin now.
+/// Who learns the progress, and how many seconds it knows of.
+#[derive(Drop)]
+struct Told<H> {
+    watch: H,
+    seconds: u64,
+}
+
+impl<'s, C, H> Shared<'s, C, H> {
+    /// The shared part of so many clients that begin now.
     pub(crate) fn new(
         clock: &'s C,
-        journal: &'s Journal<J, D>,
         words: &BenchWords<'_>,
+        clients: u32,
         begun: Instant,
+        watch: H,
     ) -> Self {
         Shared {
             clock,
-            journal,
-            turns: Mutex::new(Rounds::new()),
-            events: Events::new(),
-            changes: Mutex::new(()),
             begun,
             most: words.most_transactions(),
             most_time: words.most_time(),
+            last: Tid(LAST_TAKEN.saturating_sub(clients)),
             started: AtomicU64::new(0),
             durable: AtomicU64::new(0),
-            refused: AtomicU64::new(0),
+            ended: AtomicU64::new(0),
+            told: Mutex::new(Told { watch, seconds: 0 }),
         }
-    }
-
-    /// Waits until no other client makes a change. A change takes a few microseconds, but each of its calls takes the journal's lock. A
-    /// thread that finds it taken soon sleeps, and a sleep with its wake takes longer than all changes of a commit one after the other.
-    pub(crate) fn alone<W: Wait>(&self, rt: &W) -> MutexGuard<'_, ()> {
-        for _ in 0..LOOKS {
-            if let Some(guard) = self.changes.try_lock() {
-                return guard;
-            }
-            thread::yield_now();
-        }
-        self.changes.lock(rt)
-    }
-
-    /// Lets no client begin another transaction.
-    pub(crate) fn end(&self) {
-        self.refused.store(1, Ordering::SeqCst);
     }
 }
 
-/// A client's own state: its seat, its plan and its results.
+impl<C, H: Watch> Shared<'_, C, H> {
+    /// Tells that a second is over, unless another client has, or does it now: none waits for a slow terminal.
+    fn tell(&self, second: u64) {
+        if let Some(mut told) = self.told.try_lock() {
+            told.tell(second, self.durable.load(Ordering::SeqCst));
+        }
+    }
+}
+
+impl<H: Watch> Told<H> {
+    /// Tells that a second is over, unless it is known.
+    fn tell(&mut self, second: u64, transactions: u64) {
+        if self.seconds < second {
+            self.seconds = second;
+            self.watch.goes_on(WatchStep::Second {
+                second,
+                transactions,
+            });
+        }
+    }
+}
+
+/// Ends all clients when it is dropped.
+struct Ending<'s> {
+    ended: &'s AtomicU64,
+}
+
+impl Drop for Ending<'_> {
+    fn drop(self) {
+        let Ending { ended } = self;
+        ended.store(1, Ordering::SeqCst);
+    }
+}
+
+/// A client's own state: its plan and its results.
 #[derive(Drop)]
-pub(crate) struct Client<'s, J: JournalName, D: Device, C> {
+pub(crate) struct Changer<'s, C, H> {
     /// What all clients share.
-    pub(crate) shared: &'s Shared<'s, J, D, C>,
-    /// Its own seat.
-    pub(crate) seat: Seat<J>,
+    shared: &'s Shared<'s, C, H>,
+    /// Dropped with the client: when it ends for whatever cause, or if it can't be started.
+    ending: Ending<'s>,
     /// The blocks that each of its changes writes.
-    pub(crate) plan: Plan,
+    plan: Plan,
     /// The bytes of the block that it wrote last.
-    pub(crate) bytes: Vec<u8>,
+    bytes: Vec<u8>,
+    /// The last transaction that it joined; before that, that anybody did.
+    joined: Tid,
     /// What it has done.
-    pub(crate) done: Done,
+    done: Done,
 }
 
-impl<'s, J: JournalName, D: Device, C: Clock> Client<'s, J, D, C> {
-    pub(crate) fn new(
-        alloc: Global,
-        shared: &'s Shared<'s, J, D, C>,
-        seat: Seat<J>,
-        plan: Plan,
-    ) -> Self {
-        Client {
-            shared,
-            seat,
-            plan,
-            bytes: Vec::new(alloc),
-            done: Done::new(alloc),
-        }
-    }
+impl<'s, J: JournalName, D: Device, R: Record, G: Gate, C: Clock, H: Watch> Client<J, D, R, G>
+    for Changer<'s, C, H> {
+    type Answer = Result<Done, Fault>;
 
-    /// Makes durable changes until there are enough, the time is over, or a client was refused something.
+    /// Makes durable changes until there are enough, the time is over, or another client has ended.
     ///
     /// # Errors
     ///
-    /// The clock can't be read; memory ran out; those of a start, a write, a commit turn and a checkpoint turn. No handle is left open, and
-    /// the other clients end too.
-    pub(crate) fn run<W: Wait>(self, rt: &W) -> Result<Done, Fault> {
+    /// The clock can't be read; memory ran out; `SequenceEnd`; those of a start, a write and a wait of the session. No handle is left open,
+    /// and the other clients end too.
+    fn run<W: Wait>(self, rt: &W, session: &mut Session<'_, J, D, R, G>) -> Result<Done, Fault>
+        ensures { Unit {0} }
+    {
         let mut client = self;
+        client.joined = session.last_joined(rt);
         for _ in rt.forever() {
             if client.is_over() {
                 break;
             }
-            client.one_more(rt)?;
+            client.one_more(rt, session)?;
         }
         Ok(client.into_done())
     }
+}
 
-    pub(crate) fn into_done(self) -> Done {
-        let Client {
+impl<'s, C: Clock, H: Watch> Changer<'s, C, H> {
+    /// A client with this plan.
+    pub(crate) fn new(alloc: Global, shared: &'s Shared<'s, C, H>, plan: Plan) -> Self {
+        Changer {
+            shared,
+            ending: Ending {
+                ended: &shared.ended,
+            },
+            plan,
+            bytes: Vec::new(alloc),
+            joined: Tid(0),
+            done: Done::new(alloc),
+        }
+    }
+
+    fn into_done(self) -> Done {
+        let Changer {
             shared: _,
-            seat: _,
+            ending: _,
             plan: _,
             bytes: _,
+            joined: _,
             done,
         } = self;
         done
     }
 
     /// Whether it must begin no other transaction; if it may, one is counted as begun.
-    pub(crate) fn is_over(&self) -> bool {
+    fn is_over(&self) -> bool {
         let late = self
             .shared
             .most_time
             .is_some_and(|most| self.done.taken >= most);
-        late || self.shared.refused.load(Ordering::SeqCst) != 0
+        late || self.shared.ended.load(Ordering::SeqCst) != 0
             || self.shared.started.fetch_add(1, Ordering::SeqCst) >= self.shared.most
     }
 
-    /// Makes a durable change and times its commit; after a failure all clients end.
-    pub(crate) fn one_more<W: Wait>(&mut self, rt: &W) -> Result<(), Fault> {
-        match self.timed(rt) {
-            Ok(_) => {
-                self.shared.durable.fetch_add(1, Ordering::SeqCst);
-                Ok(())
-            }
-            Err(fault) => {
-                self.shared.end();
-                Err(fault)
-            }
+    /// Makes a durable change, times its commit, and tells of a second that is over.
+    fn one_more<J: JournalName, D: Device, R: Record, G: Gate, W: Wait>(
+        &mut self,
+        rt: &W,
+        session: &mut Session<'_, J, D, R, G>,
+    ) -> Result<(), Fault> {
+        let before = self.done.taken.as_secs();
+        self.timed(rt, session)?;
+        self.shared.durable.fetch_add(1, Ordering::SeqCst);
+        let second = self.done.taken.as_secs();
+        if second > before {
+            self.shared.tell(second);
         }
+        Ok(())
     }
 
-    fn timed<W: Wait>(&mut self, rt: &W) -> Result<SharedReceipt<J>, Fault>
+    fn timed<J: JournalName, D: Device, R: Record, G: Gate, W: Wait>(
+        &mut self,
+        rt: &W,
+        session: &mut Session<'_, J, D, R, G>,
+    ) -> Result<SharedReceipt<J, R>, Fault>
         ensures { IfOk result (λ receipt. receipt.ticket.tid ≤ receipt.ticket.seen) }
     {
-        let ticket = self.change(rt)?;
+        let ticket = self.change(rt, session)?;
         let asked = now(self.shared.clock)?;
-        let receipt = self.wait(rt, ticket)?;
-        let committed = now(self.shared.clock)?;
-        self.note(asked, committed)?;
+        let receipt = match session.wait(rt, ticket) {
+            Ok(receipt) => receipt,
+            Err((_, e)) => return Err(Fault::from(e)),
+        };
+        self.note(&receipt, asked, now(self.shared.clock)?)?;
         Ok(receipt)
     }
 
-    fn note(&mut self, asked: Instant, committed: Instant) -> Result<(), Fault> {
+    /// Notes a commit by its receipt, and the times of its request and its end.
+    fn note<J: JournalName, R: Record>(
+        &mut self,
+        receipt: &SharedReceipt<J, R>,
+        asked: Instant,
+        committed: Instant,
+    ) -> Result<(), Fault>
+        requires { receipt.now.ticket.tid ≤ receipt.now.ticket.seen }
+    {
+        self.joined = receipt.tid();
         self.done.tally.add(committed.duration_since(asked))?;
         self.done.taken = committed.duration_since(self.shared.begun);
         Ok(())
     }
 
     /// Writes the next transaction's blocks through one handle, and stops that, also after a refusal.
-    fn change<W: Wait>(&mut self, rt: &W) -> Result<SharedTicket<J>, JournalError> {
-        let (mut handle, alone) = self.start(rt)?;
-        let written = self.write_all(rt, &mut handle);
-        let ticket = self.shared.journal.stop(rt, handle);
-        drop(alone);
-        self.shared.events.stopped.notify();
+    fn change<J: JournalName, D: Device, R: Record, G: Gate, W: Wait>(
+        &mut self,
+        rt: &W,
+        session: &mut Session<'_, J, D, R, G>,
+    ) -> Result<SharedTicket<J, R>, JournalError> {
+        let last = self.shared.last;
+        if last.0 < self.joined.0 {
+            return Err(JournalError::SequenceEnd);
+        }
+        let mut handle = session.start(rt, self.plan.copies())?;
+        let written = self.write_all(rt, session, &mut handle);
+        let ticket = session.stop(rt, handle);
         written?;
         Ok(ticket)
     }
 
-    /// A handle with credits for its blocks, while no other client makes a change. Waits while the running transaction takes no handles,
-    /// and while others hold the credits; if nobody takes turns then, it does.
-    fn start<W: Wait>(
+    fn write_all<'j, J: JournalName, D: Device, R: Record, G: Gate, W: Wait>(
         &mut self,
         rt: &W,
-    ) -> Result<(SharedHandle<'s, J>, MutexGuard<'s, ()>), JournalError> {
-        let shared = self.shared;
-        for _ in rt.forever() {
-            let alone = shared.alone(rt);
-            // No other client joins meanwhile, so at most one transaction is sealed between this look and the start.
-            if shared.journal.last_joined(rt).0 >= LAST_TAKEN {
-                return Err(JournalError::SequenceEnd);
-            }
-            let seen = shared.events.sealed.seen();
-            match shared
-                .journal
-                .try_start(rt, &mut self.seat, self.plan.copies())
-            {
-                Ok(handle) => return Ok((handle, alone)),
-                Err(JournalError::Full | JournalError::NotRunning) => {}
-                Err(e) => return Err(e),
-            }
-            drop(alone);
-            if !lead(rt, shared.journal, &shared.turns, &shared.events)? {
-                spin::wait(rt, &shared.events.sealed, seen);
-            }
-        }
-        unreachable!()
-    }
-
-    fn write_all<W: Wait>(
-        &mut self,
-        rt: &W,
-        handle: &mut SharedHandle<'s, J>,
+        session: &Session<'j, J, D, R, G>,
+        handle: &mut SharedHandle<'j, J, R>,
     ) -> Result<(), JournalError> {
         for number in 0..self.plan.copies() {
             let (block, fill) = self.plan.draw(number);
-            self.write(rt, handle, block, fill)?;
+            self.bytes.resize(session.block_size(), 0)?;
+            self.bytes.fill(fill);
+            session.write(rt, handle, block, &self.bytes)?;
         }
         Ok(())
-    }
-
-    fn write<W: Wait>(
-        &mut self,
-        rt: &W,
-        handle: &mut SharedHandle<'s, J>,
-        block: BlockNo,
-        fill: u8,
-    ) -> Result<(), JournalError> {
-        self.bytes.resize(self.shared.journal.block_size(), 0)?;
-        self.bytes.fill(fill);
-        self.shared.journal.write(rt, handle, block, &self.bytes)
-    }
-
-    /// Waits until a ticket's transaction is committed; if nobody takes turns, it does.
-    fn wait<W: Wait>(
-        &mut self,
-        rt: &W,
-        ticket: SharedTicket<J>,
-    ) -> Result<SharedReceipt<J>, JournalError>
-        ensures { IfOk result (λ receipt. receipt.ticket.tid ≤ receipt.ticket.seen) }
-    {
-        let shared = self.shared;
-        let mut ticket = ticket;
-        for _ in rt.forever() {
-            let seen = shared.events.committed.seen();
-            match shared.journal.reach(ticket) {
-                Ok(receipt) => return Ok(receipt),
-                Err(back) => ticket = back,
-            }
-            if !lead(rt, shared.journal, &shared.turns, &shared.events)? {
-                spin::wait(rt, &shared.events.committed, seen);
-            }
-        }
-        unreachable!()
     }
 }
 

@@ -4,8 +4,6 @@
 pub mod bench;
 mod client;
 mod counted;
-mod leader;
-mod spin;
 mod tally;
 pub mod threads;
 mod work;

@@ -1,30 +1,31 @@
 //! The command `bench` with clients in threads of their own over one journal.
-ghost use Rattle.std.specs.Prelude.{◌≡◌, IfOk, IfSome};
+ghost use Rattle.std.specs.Prelude.{◌≡◌, ◌≢◌, IfOk, IfSome};
+ghost use Rattle.journal_model.specs.declared.refusal.JournalError.TheVariants.{Aborted};
+ghost use Rattle.jbench_words.specs.declared.fault.Fault.TheVariants.{Refused};
 ghost use Rattle.commit_times.specs.Closed.{IsLeftClosed};
 
 use crate::bench::{Done, SEED, refuse, say};
-use crate::client::{Client, Shared, now};
+use crate::client::{Changer, Shared, now};
 use crate::counted::Counted;
 use crate::work::{Plan, close};
 use block_device::Device;
 use jbench_words::fault::Fault;
-use jbench_words::watch::{Watch, WatchStep};
+use jbench_words::watch::Watch;
 use jbench_words::words::BenchWords;
 use journal_model::{Area, JournalError};
 use shared_journal::{Journal, JournalName, Seat, UnnamedJournal};
 use std::alloc::Global;
-use std::collections::VecDeque;
+use std::io;
 use std::io::Write;
 use std::marker::Brand;
 use std::sync::Wait;
-use std::sync::atomic::Ordering;
-use std::thread::{JoinHandle, Scope, Threads};
+use std::thread::Threads;
 use std::time::Clock;
-use std::{io, thread};
+use volume_service::{OpenGate, ServedClients, serve_clients};
 
 /// Opens the log of a device, lets this many clients commit changes as the words say, each through one handle of the given number of copies
-/// at a time, and closes the journal. Prints what `bench::bench` prints, and how many handles a commit had. One client works in the
-/// caller's thread, the others in threads of their own. `watch`, the device and `err` are as for `bench::bench`.
+/// at a time, and closes the journal. Prints what `bench::bench` prints, and how many handles a commit had. Each client has a thread and a
+/// session of its own. `watch`, the device and `err` are as for `bench::bench`.
 ///
 /// # Errors
 ///
@@ -33,7 +34,7 @@ pub fn bench<
     D: Device + Send + Drop,
     R: Threads + Wait + Sync,
     C: Clock + Sync,
-    H: Watch + Drop,
+    H: Watch + Send + Drop,
     W: Write + Drop,
     E: Write + Drop,
 >(
@@ -49,16 +50,25 @@ pub fn bench<
 ) -> io::Result<Option<D>>
     ensures { IfOk result (λ done. IfSome done (λ device. D.honest device → IsLeftClosed (D.state device))) }
 {
-    let (mut watch, mut out) = (watch, out);
+    let mut out = out;
     let home_blocks = device.blocks(Area::Home);
-    match do_and_say(
-        rt, clock, alloc, words, clients, device, &mut watch, &mut out,
-    ) {
+    match do_and_say(rt, clock, alloc, words, clients, device, watch, &mut out) {
         Ok(device) => Ok(Some(device)),
         Err(fault) => {
-            refuse(words, home_blocks, fault, err)?;
+            refuse(words, home_blocks, cause_of(fault), err)?;
             Ok(None)
         }
+    }
+}
+
+/// Why a bench ended, by the refusal of one of its calls. `Aborted` tells that the device failed before that call. The bench itself opened
+/// the journal, so the device failed in it.
+fn cause_of(fault: Fault) -> Fault
+    ensures { result ≢ Refused Aborted }
+{
+    match fault {
+        Fault::Refused(JournalError::Aborted) => Fault::Refused(JournalError::Device),
+        other => other,
     }
 }
 
@@ -66,7 +76,7 @@ fn do_and_say<
     D: Device + Send + Drop,
     R: Threads + Wait + Sync,
     C: Clock + Sync,
-    H: Watch,
+    H: Watch + Send + Drop,
     W: Write,
 >(
     rt: &R,
@@ -75,7 +85,7 @@ fn do_and_say<
     words: &BenchWords<'_>,
     clients: u64,
     device: D,
-    watch: &mut H,
+    watch: H,
     out: &mut W,
 ) -> Result<D, Fault>
     ensures { IfOk result (λ device. D.honest device → IsLeftClosed (D.state device)) }
@@ -107,7 +117,7 @@ fn do_all<
     D: Device + Send + Drop,
     R: Threads + Wait + Sync,
     C: Clock + Sync,
-    H: Watch,
+    H: Watch + Send + Drop,
 >(
     rt: &R,
     clock: &C,
@@ -115,7 +125,7 @@ fn do_all<
     words: &BenchWords<'_>,
     plans: Vec<Plan>,
     unnamed: UnnamedJournal<D>,
-    watch: &mut H,
+    watch: H,
 ) -> Result<(Done, u64, D), Fault>
     requires name { unnamed.name ≡ J.name }
     ensures { IfOk result (λ ended. D.honest ended.2 → IsLeftClosed (D.state ended.2)) }
@@ -133,7 +143,7 @@ fn work<
     D: Device + Send,
     R: Threads + Wait + Sync,
     C: Clock + Sync,
-    H: Watch,
+    H: Watch + Send + Drop,
 >(
     rt: &R,
     clock: &C,
@@ -142,162 +152,45 @@ fn work<
     journal: &Journal<J, D>,
     seat: Seat<J>,
     plans: Vec<Plan>,
-    watch: &mut H,
+    watch: H,
 ) -> Result<(Done, u64), Fault> {
     let mut seat = seat;
-    let Some(other) = journal.split_seat(&mut seat) else {
-        return Err(Fault::from(JournalError::TooMany));
-    };
     let before = journal.seen(&mut seat);
-    let shared = Shared::new(clock, journal, words, now(clock)?);
-    let done = run_all(rt, alloc, &shared, other, plans, watch)?;
+    let count = u32::try_from(plans.len()).unwrap_or(u32::MAX);
+    let shared = Shared::new(clock, words, count, now(clock)?, watch);
+    let clients = clients(alloc, &shared, plans)?;
+    let served = serve_clients(rt, alloc, journal, seat, clients, &OpenGate)?;
+    let ServedClients {
+        answers,
+        tally: _,
+        seat,
+    } = served;
+    let mut seat = seat;
     let after = journal.seen(&mut seat);
+    let done = all_of(alloc, answers)?;
     Ok((done, u64::from(after.0.saturating_sub(before.0))))
 }
 
-fn run_all<
-    's,
-    J: JournalName + Send + Sync,
-    D: Device + Send,
-    R: Threads + Wait + Sync,
-    C: Clock + Sync,
-    H: Watch,
->(
-    rt: &R,
+/// A client for each plan.
+fn clients<'s, C: Clock, H: Watch>(
     alloc: Global,
-    shared: &'s Shared<'s, J, D, C>,
-    seat: Seat<J>,
+    shared: &'s Shared<'s, C, H>,
     plans: Vec<Plan>,
-    watch: &mut H,
-) -> Result<Done, Fault> {
-    thread::scope(thread::scope_env(), rt, |scope| {
-        run_in(rt, scope, alloc, shared, seat, plans, watch)
-    })
-}
-
-/// Starts a thread for each client but one, which works here, and joins the others.
-fn run_in<
-    's,
-    'h,
-    E,
-    J: JournalName + Send + Sync,
-    D: Device + Send,
-    R: Threads + Wait + Sync,
-    C: Clock + Sync,
-    H: Watch,
->(
-    rt: &'s R,
-    scope: &'s Scope<'s, E>,
-    alloc: Global,
-    shared: &'s Shared<'s, J, D, C>,
-    seat: Seat<J>,
-    plans: Vec<Plan>,
-    watch: &'h mut H,
-) -> Result<Done, Fault> {
-    let mut clients = clients(alloc, shared, seat, plans)?;
-    let Some(mine) = clients.pop_front() else {
-        return Err(Fault::from(JournalError::TooMany));
-    };
-    match start_all(rt, scope, alloc, clients) {
-        Ok(running) => join_all(rt, run_watched(rt, mine, watch), running),
-        Err(e) => {
-            shared.end();
-            Err(Fault::from(e))
-        }
-    }
-}
-
-fn clients<'s, J: JournalName, D: Device, C: Clock>(
-    alloc: Global,
-    shared: &'s Shared<'s, J, D, C>,
-    seat: Seat<J>,
-    plans: Vec<Plan>,
-) -> Result<VecDeque<Client<'s, J, D, C>>, JournalError> {
-    let seats = shared.journal.split_seats(alloc, seat, plans.len())?;
-    let mut clients = VecDeque::new(alloc);
-    for (seat, plan) in seats.into_iter().zip(plans) {
-        let client = Client::new(alloc, shared, seat, plan);
-        if clients.push_back(client).is_err() {
+) -> Result<Vec<Changer<'s, C, H>>, JournalError> {
+    let mut clients = Vec::new(alloc);
+    for plan in plans {
+        if clients.push(Changer::new(alloc, shared, plan)).is_err() {
             return Err(JournalError::Memory);
         }
     }
     Ok(clients)
 }
 
-fn start_all<
-    's,
-    E,
-    J: JournalName + Send + Sync,
-    D: Device + Send,
-    R: Wait + Sync,
-    C: Clock + Sync,
->(
-    rt: &'s R,
-    scope: &'s Scope<'s, E>,
-    alloc: Global,
-    clients: VecDeque<Client<'s, J, D, C>>,
-) -> Result<Vec<JoinHandle<Result<Done, Fault>>>, JournalError> {
-    let mut running = Vec::new(alloc);
-    for client in clients {
-        let thread = start_client(rt, scope, client)?;
-        if running.push(thread).is_err() {
-            return Err(JournalError::Memory);
-        }
-    }
-    Ok(running)
-}
-
-fn start_client<
-    's,
-    E,
-    J: JournalName + Send + Sync,
-    D: Device + Send,
-    R: Wait + Sync,
-    C: Clock + Sync,
->(
-    rt: &'s R,
-    scope: &'s Scope<'s, E>,
-    client: Client<'s, J, D, C>,
-) -> Result<JoinHandle<Result<Done, Fault>>, JournalError> {
-    match scope.spawn(move || client.run(rt)) {
-        Ok(thread) => Ok(thread),
-        Err(_) => Err(JournalError::Memory),
-    }
-}
-
-/// Lets a client work in this thread, and notifies `watch` each second.
-fn run_watched<'s, J: JournalName, D: Device, R: Wait, C: Clock, H: Watch>(
-    rt: &R,
-    client: Client<'s, J, D, C>,
-    watch: &mut H,
-) -> Result<Done, Fault> {
-    let mut client = client;
-    for _ in rt.forever() {
-        let before = client.done.taken.as_secs();
-        if client.is_over() {
-            break;
-        }
-        client.one_more(rt)?;
-        let second = client.done.taken.as_secs();
-        if second > before {
-            watch.goes_on(WatchStep::Second {
-                second,
-                transactions: client.shared.durable.load(Ordering::SeqCst),
-            });
-        }
-    }
-    Ok(client.into_done())
-}
-
-/// Joins all threads. Returns what they and this one have done.
-fn join_all<R: Threads>(
-    rt: &R,
-    mine: Result<Done, Fault>,
-    running: Vec<JoinHandle<Result<Done, Fault>>>,
-) -> Result<Done, Fault> {
-    let mut done = mine;
-    for thread in running {
-        done = both(done, thread.join(rt));
+/// What all clients have done, or why one of them could not go on.
+fn all_of(alloc: Global, answers: Vec<Result<Done, Fault>>) -> Result<Done, Fault> {
+    let mut done = Ok(Done::new(alloc));
+    for answer in answers {
+        done = both(done, answer);
     }
     done
 }

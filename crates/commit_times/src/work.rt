@@ -132,7 +132,7 @@ impl<D: Device + Drop> Work<D> {
     ///
     /// # Errors
     ///
-    /// Those of a close.
+    /// `NotRunning`: a handle is open. Those of a close.
     pub(crate) fn close(self) -> Result<D, JournalError>
         ensures { IfOk result (λ device. D.honest device → IsLeftClosed (D.state device)) }
     {
@@ -141,6 +141,9 @@ impl<D: Device + Drop> Work<D> {
             next: _,
             bytes: _,
         } = self;
+        if journal.has_open_handles() {
+            return Err(JournalError::NotRunning);
+        }
         close(journal)
     }
 }
@@ -149,17 +152,8 @@ impl<D: Device + Drop> Work<D> {
 ///
 /// # Errors
 ///
-/// `NotRunning`: a handle is open. Those of a close.
+/// Those of a close.
 pub(crate) fn close<D: Device + Drop>(journal: Journal<D>) -> Result<D, JournalError>
-    ensures { IfOk result (λ device. D.honest device → IsLeftClosed (D.state device)) }
-{
-    if journal.has_open_handles() {
-        return Err(JournalError::NotRunning);
-    }
-    closed(journal)
-}
-
-fn closed<D: Device + Drop>(journal: Journal<D>) -> Result<D, JournalError>
     requires { journal.journal.front.open_handles ≡ [] }
     ensures { IfOk result (λ device. D.honest device → IsLeftClosed (D.state device)) }
 {

@@ -729,17 +729,16 @@ pub(crate) const BENCH: Usage = Usage {
 The log is opened as by recover. Then transactions are committed one after the
 other, each by one handle that writes K blocks of HOME. HOME has K parts of the
 same length, and each gets a block, at a place that the generator xoshiro256++
-draws from the seed 1. What these blocks held is lost. Once half of the ring or
-640 blocks are taken, a part of a checkpoint round follows each commit. If the
-ring still has no room, whole rounds come first. The journal is closed at the
-end.
+draws from the seed 1. What these blocks held is lost. Once half of the ring is
+taken, or 128 transactions are in it, a part of a checkpoint round follows each
+commit. If the ring still has no room, whole rounds come first. The journal is
+closed at the end.
 
 With --threads N clients do so at once over one journal, with the seeds 1 to N,
-each in a thread but the first. A client that waits first takes a part of a
-round, if half of the ring may be taken. Then it commits the transaction that
-all have joined by then, with no worker between. --transactions is for all of
-them together. One more line tells how many commits there were, and how many
-handles each had.
+each in a thread of its own. A client that waits commits the transaction that
+all have joined by then, unless another one does; a part of a round comes before
+it. --transactions is for all of them together. One more line tells how many
+commits there were, and how many handles each had.
 
 It prints how many transactions and blocks were durable, in which time from the
 opened log to the last commit, and how many a second. Then it prints the
@@ -793,7 +792,7 @@ Example: jbench bench log home --seconds 10 --copies 4",
             name: "threads",
             value: "N",
             is_option: true,
-            help: "Let N clients commit at once over one journal, 1 to 64, all but one in threads [default: one, over the journal of one thread]",
+            help: "Let N clients commit at once over one journal, 1 to 64, each in a thread [default: one, over the journal of one thread]",
         },
         Word {
             name: "csv",

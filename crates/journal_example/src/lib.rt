@@ -6,11 +6,10 @@
 #![tactic(auto)]
 
 use anyhow::{Result, bail};
-use file_device::{FileDevice, UnknownContents, lock};
-use group_commit::{
-    BlockNo, Device, FrontCalls, Handle, Journal, JournalError, Receipt, Ticket, Tid,
+use keelsoursop::files::{FileDevice, UnknownContents, lock};
+use keelsoursop::{
+    BlockNo, Device, FrontCalls, Handle, Journal, JournalError, Opened, Receipt, Ticket, Tid,
 };
-use recovery::Opened;
 use std::alloc::Global;
 use std::fs::{File, OpenOptions};
 
@@ -49,7 +48,7 @@ pub fn work<D: Device + Drop>(alloc: Global, device: D) -> Result<Done> {
 }
 
 /// Opens or creates a file of this length in bytes, and locks it against other programs that lock it. It makes the length durable, since a
-/// device never changes it. For an existing log, `file_device::make_durable` would follow.
+/// device never changes it. For an existing log, `files::make_durable` would follow.
 fn file_of(rt: &HostRuntime, path: &str, bytes: u64) -> Result<File> {
     let file = OpenOptions::new()
         .read(true)
@@ -81,8 +80,8 @@ fn device_over(alloc: Global, log: File, home: File) -> Result<FileDevice<Unknow
 /// writes nothing if the log is clean, or is refused for its contents.
 fn format_and_open<D: Device + Drop>(alloc: Global, device: D) -> Result<Opened<D>> {
     let mut device = device;
-    recovery::format(&mut device, LOG_BLOCKS, &[0xaa; 16], false)?;
-    match recovery::open(alloc, device) {
+    keelsoursop::format(&mut device, LOG_BLOCKS, &[0xaa; 16], false)?;
+    match keelsoursop::open(alloc, device) {
         Ok(opened) => Ok(opened),
         Err((_, e)) => bail!("{e}"),
     }

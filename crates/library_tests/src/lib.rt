@@ -8,8 +8,6 @@ mod closes;
 #[cfg(test)]
 mod credits;
 #[cfg(test)]
-mod example;
-#[cfg(test)]
 mod expected;
 #[cfg(test)]
 mod holders;

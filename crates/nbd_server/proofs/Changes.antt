@@ -5,7 +5,7 @@ use Rattle.journal_model.specs.declared.refusal.JournalError.{JournalError}
 use Rattle.handle.specs.Name.{JournalId}
 use Rattle.locked_journal.specs.Known.{TicketKnown}
 use Rattle.byte_volume.specs.Refusals.{TrimRefused, WriteRefused}
-use Rattle.byte_volume.specs.Writing.{RevokesBlocks, RevokesSome, WritesAll, WritesSome, first_whole, whole_blocks}
+use Rattle.byte_volume.specs.Writing.{TrimsBlocks, TrimsSome, WritesAll, WritesSome, first_whole, whole_blocks}
 use Rattle.nbd_protocol.specs.declared.request.Request.{Request}
 use Rattle.nbd_protocol.specs.Requests.{IsChange}
 use Rattle.nbd_protocol.specs.Requests.IsChange.{Trims, Writes, WritesZeros}
@@ -46,14 +46,14 @@ zeros_failed state honest name size capacity r bytes tickets (Err e) is why left
 
 -- a trim
 pub trimmed : {D T E : Type 0} (state : D → DeviceState) (honest : D → Type 0) (name : JournalId) (size capacity : ℕ) (r : Request) (bytes : List ℕ) (tickets : List TicketKnown)
-    (result : Result T E) → r.command ≡ 4 → OnOk result (RevokesBlocks (first_whole size r.offset) tickets (whole_blocks size r.offset r.length)) →
+    (result : Result T E) → r.command ≡ 4 → OnOk result (TrimsBlocks state honest name (first_whole size r.offset) tickets (whole_blocks size r.offset r.length)) →
     OnOk result (IsDone state honest name size capacity r bytes tickets)
-trimmed state honest name size capacity r bytes tickets (Ok done) is revoked = Trimmed is revoked
-trimmed state honest name size capacity r bytes tickets (Err e) is revoked = tt
+trimmed state honest name size capacity r bytes tickets (Ok done) is trims = Trimmed is trims
+trimmed state honest name size capacity r bytes tickets (Err e) is trims = tt
 
 pub trim_failed : {D T : Type 0} (state : D → DeviceState) (honest : D → Type 0) (name : JournalId) (size capacity : ℕ) (r : Request) (bytes : List ℕ) (tickets : List TicketKnown)
     (result : Result T JournalError) → r.command ≡ 4 → IfErr result (TrimRefused D size capacity r.offset r.length) →
-    OnErr result (RevokesSome (first_whole size r.offset) (whole_blocks size r.offset r.length) tickets) →
+    OnErr result (TrimsSome state honest name (first_whole size r.offset) (whole_blocks size r.offset r.length) tickets) →
     IfErr result (ChangeFails state honest name size capacity r bytes tickets)
 trim_failed state honest name size capacity r bytes tickets (Ok done) is why left = tt
 trim_failed state honest name size capacity r bytes tickets (Err e) is why left = OfTrim is why left

@@ -6,9 +6,9 @@ use Rattle.journal_model.specs.Disk.{Shape}
 use Rattle.handle.specs.Name.{JournalId}
 use Rattle.locked_journal.specs.Known.{TicketKnown}
 use Rattle.shared_journal.specs.Moments.{WasLastJoinedHere}
-use Rattle.volume_service.specs.Session.{NotAwaited}
+use Rattle.shared_journal.specs.Waiting.{NotAwaited}
 use Rattle.byte_volume.specs.Reading.{ReadsRange}
-use Rattle.byte_volume.specs.Writing.{RevokesBlocks, WritesAll, first_whole, whole_blocks}
+use Rattle.byte_volume.specs.Writing.{TrimsBlocks, WritesAll, first_whole, whole_blocks}
 use Rattle.nbd_protocol.specs.declared.request.Request.{Request}
 use Rattle.nbd_protocol.specs.Layout.{simple_reply}
 use Rattle.nbd_protocol.specs.Requests.{IsChange, IsTaken, WantsCommit}
@@ -37,12 +37,12 @@ pub data Releases (D : Type 0) (due : DueValue) (seen : ℕ) (reply : List ℕ) 
   AsRefused : (why : JournalError) → NotAwaited D why → reply ≡ simple_reply (error_number why) due.cookie → is_committed ≡ false →
       Releases D due seen reply is_committed
 
--- the handles of these tickets did what a request says: they wrote the bytes after it, or zeros, or revoked the blocks that lie whole in its
+-- the handles of these tickets did what a request says: they wrote the bytes after it, or zeros, or trimmed the blocks that lie whole in its
 -- range. For no bytes, and for a request that changes none, there was no handle
 pub data IsDone {D : Type 0} (state : D → DeviceState) (honest : D → Type 0) (name : JournalId) (size capacity : ℕ) (r : Request) (bytes : List ℕ) (tickets : List TicketKnown) : Type 0 where
   Written : r.command ≡ 1 → length bytes ≡ r.length → WritesAll state honest name size capacity r.offset bytes tickets → IsDone state honest name size capacity r bytes tickets
   Zeroed : r.command ≡ 6 → WritesAll state honest name size capacity r.offset (replicate r.length 0) tickets → IsDone state honest name size capacity r bytes tickets
-  Trimmed : r.command ≡ 4 → RevokesBlocks (first_whole size r.offset) tickets (whole_blocks size r.offset r.length) → IsDone state honest name size capacity r bytes tickets
+  Trimmed : r.command ≡ 4 → TrimsBlocks state honest name (first_whole size r.offset) tickets (whole_blocks size r.offset r.length) → IsDone state honest name size capacity r bytes tickets
   NoBytes : r.length ≡ 0 → tickets ≡ [] → IsDone state honest name size capacity r bytes tickets
   NoChange : (IsChange r → ⊥) → tickets ≡ [] → IsDone state honest name size capacity r bytes tickets
 

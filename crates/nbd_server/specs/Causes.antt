@@ -7,7 +7,7 @@ use Rattle.handle.specs.Name.{JournalId}
 use Rattle.locked_journal.specs.Known.{TicketKnown}
 use Rattle.byte_volume.specs.Reading.{RangeRefused}
 use Rattle.byte_volume.specs.Refusals.{TrimRefused, WriteRefused}
-use Rattle.byte_volume.specs.Writing.{RevokesSome, WritesSome, first_whole, whole_blocks}
+use Rattle.byte_volume.specs.Writing.{TrimsSome, WritesSome, first_whole, whole_blocks}
 use Rattle.nbd_protocol.specs.declared.request.Request.{Request}
 use Rattle.nbd_protocol.specs.Requests.{IsTaken, RefusedWith}
 
@@ -56,5 +56,5 @@ pub data ChangeFails {D : Type 0} (state : D → DeviceState) (honest : D → Ty
       ChangeFails state honest name size capacity r bytes tickets e
   OfZeros : r.command ≡ 6 → WriteRefused state size capacity r.offset r.length e → WritesSome state honest name size r.offset (replicate r.length 0) tickets →
       ChangeFails state honest name size capacity r bytes tickets e
-  OfTrim : r.command ≡ 4 → TrimRefused D size capacity r.offset r.length e → RevokesSome (first_whole size r.offset) (whole_blocks size r.offset r.length) tickets →
+  OfTrim : r.command ≡ 4 → TrimRefused D size capacity r.offset r.length e → TrimsSome state honest name (first_whole size r.offset) (whole_blocks size r.offset r.length) tickets →
       ChangeFails state honest name size capacity r bytes tickets e

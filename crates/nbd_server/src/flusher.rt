@@ -58,7 +58,7 @@ impl<I: Drop, O: Write + Drop> Flusher<'_, I, O> {
             };
             let (cookie, upto) = (due.cookie(), due.upto());
             if reached.0 < upto.0 {
-                self.send(rt, session)?;
+                self.outlet.send(rt)?;
             }
             let (reply, is_committed) = release(rt, session, due);
             if is_committed {
@@ -66,23 +66,12 @@ impl<I: Drop, O: Write + Drop> Flusher<'_, I, O> {
             }
             self.outlet.give(rt, Answer::Now(reply))?;
             if self.owed.is_empty() {
-                self.send(rt, session)?;
+                self.outlet.send(rt)?;
             }
             if is_committed && committed.len() < self.keep {
                 register(committed, Committed { cookie, upto })?;
             }
         }
-        Ok(())
-    }
-
-    /// Sends what was given, and only then keeps room for later commits.
-    fn send<J: JournalName, D: Device, R: Record, W: Wait>(
-        &mut self,
-        rt: &W,
-        session: &mut Session<'_, J, D, R>,
-    ) -> io::Result<()> {
-        self.outlet.send(rt)?;
-        session.room().keep(rt);
         Ok(())
     }
 }

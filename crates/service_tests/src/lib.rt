@@ -2,9 +2,9 @@
 #![tactic(auto)]
 
 #[cfg(test)]
-mod example;
-#[cfg(test)]
 mod expected;
+#[cfg(test)]
+mod late;
 #[cfg(test)]
 mod service;
 #[cfg(test)]

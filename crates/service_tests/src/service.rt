@@ -1,19 +1,21 @@
-//! Clients in threads of their own, over a device in memory: undisturbed, held at a gate, short of room, and over a failing device.
+//! Clients in threads of their own, over a device in memory: undisturbed, held at a gate, short of room, and over a failing device. A wrong
+//! scheduler may leave a thread asleep; `late` then fails the test.
 ghost use Rattle.std.specs.Prelude.{◌≡◌};
 
 mod flushes;
 mod gates;
-mod own;
+mod moments;
 mod refused;
 mod rounds;
 mod tasks;
 
 use crate::expected::expect;
+use crate::late::fail_if_late;
 use block_device::{Device, FailOnce, MemDevice};
-use gates::{Meeting, Overtaking};
+use gates::Meeting;
 use journal_model::{Block, BlockNo, JournalError, Sealed, Tid};
 use recovery::Opened;
-use shared_journal::{JournalName, Tally, UnnamedJournal};
+use shared_journal::{JournalName, Record, SharedTicket, Tally, UnnamedJournal, Unrecorded};
 use std::alloc::{AllocError, Global};
 use std::marker::Brand;
 use std::sync::Wait;
@@ -22,14 +24,35 @@ use std::thread::Threads;
 use test_logs::{BLOCK_SIZE, formatted, opened};
 use thread_tests::journals::{create_on, unnamed_on};
 use volume_service::{
-    ClientOutcome, Gate, HandlePlan, HeldDevice, OpenGate, Outcome, Service, Touch,
+    Client, ClientOutcome, Gate, HandlePlan, OpenGate, Outcome, Service, Session, Touch,
+    serve_clients,
 };
 
 /// Blocks of the log; a transaction then has at most six credits.
 const LOG_BLOCKS: u32 = 33;
 
+/// Blocks of the shortest log; a transaction then has at most two credits.
+const FEWEST_LOG_BLOCKS: u32 = 17;
+
 /// How often two clients run.
-const RUNS: u32 = 1000;
+const RUNS: u32 = 200;
+
+/// Writes one block through a handle of its own with so many credits, and stops that.
+fn stop_one<J: JournalName, D: Device, R: Record, G: Gate, W: Wait>(
+    rt: &W,
+    alloc: Global,
+    session: &mut Session<'_, J, D, R, G>,
+    credits: u64,
+    block: u64,
+    byte: u8,
+) -> Result<SharedTicket<J, R>, JournalError> {
+    let bytes = vec![in alloc; byte; session.block_size()]?;
+    let mut handle = session.start(rt, credits)?;
+    let wrote = session.write(rt, &mut handle, BlockNo(block), &bytes);
+    let ticket = session.stop(rt, handle);
+    wrote?;
+    Ok(ticket)
+}
 
 fn write(alloc: Global, block: u64, byte: u8) -> Result<Touch, AllocError> {
     Ok(Touch::Write(
@@ -65,34 +88,44 @@ fn two_clients(alloc: Global) -> Result<Vec<Vec<HandlePlan>>, AllocError> {
     Ok(plans)
 }
 
-/// Each handle writes two blocks of its client; every other handle is waited for.
+/// Each handle writes two blocks of its client, but every fourth gives its credits back; every handle or every other one is waited for.
 fn many_clients(
     alloc: Global,
     clients: u64,
-    handles: u8,
+    handles: u64,
+    all_wait: bool,
 ) -> Result<Vec<Vec<HandlePlan>>, AllocError> {
     let mut plans = Vec::new(alloc);
     for client in 0..clients {
-        plans.push(many_handles(alloc, client, handles)?)?;
+        plans.push(many_handles(alloc, client, handles, all_wait)?)?;
     }
     Ok(plans)
 }
 
-fn many_handles(alloc: Global, client: u64, handles: u8) -> Result<Vec<HandlePlan>, AllocError> {
+fn many_handles(
+    alloc: Global,
+    client: u64,
+    handles: u64,
+    all_wait: bool,
+) -> Result<Vec<HandlePlan>, AllocError> {
     let mut plan = Vec::new(alloc);
     for number in 0..handles {
-        let mut handle = one(alloc, 2, client % 32 * 2, number)?;
+        let byte = (number % 256) as u8;
+        let mut handle = one(alloc, 2, client % 32 * 2, byte)?;
         handle
             .touches
-            .push(write(alloc, client % 32 * 2 + 1, number)?)?;
-        handle.waits = number % 2 == 1;
+            .push(write(alloc, client % 32 * 2 + 1, byte)?)?;
+        if number % 4 == 2 {
+            handle.touches.clear();
+        }
+        handle.waits = all_wait || number % 2 == 1;
         plan.push(handle)?;
     }
     Ok(plan)
 }
 
-/// How many clients were refused something, and the last cause; how many handles were stopped and how many have receipts, and the greatest
-/// transaction of these; the tally; and how many transactions were committed.
+/// How many clients were refused something, and why, one other than `Aborted` if there is one; how many handles were stopped and how many
+/// have receipts, and the greatest transaction of these; the tally; and how many transactions were committed.
 #[derive(Clone, Copy, Debug, PartialEq, Eq)]
 struct Summary {
     refused: usize,
@@ -108,7 +141,9 @@ fn count<J: JournalName>(summary: Summary, client: &ClientOutcome<J, Vec<Sealed>
     let mut summary = summary;
     if client.refusal.is_some() {
         summary.refused = summary.refused.saturating_add(1);
-        summary.why = client.refusal;
+        if summary.why.is_none() || summary.why == Some(JournalError::Aborted) {
+            summary.why = client.refusal;
+        }
     }
     for handle in &client.handles {
         summary.handles = summary.handles.saturating_add(1);
@@ -165,6 +200,28 @@ fn summary_of<J: JournalName, D: Device + Drop>(
     (summary, parts.device)
 }
 
+/// Runs clients of a type of their own over an unnamed journal, and ends it as a crash would. Returns their answers, and the device.
+fn serve_all<
+    J: JournalName + Send + Sync,
+    D: Device + Send + Drop,
+    C: Client<J, D, Unrecorded, OpenGate> + Send + Drop,
+    R: Threads + Wait + Sync,
+>(
+    rt: &R,
+    alloc: Global,
+    unnamed: UnnamedJournal<D>,
+    clients: Vec<C>,
+) -> Result<(Vec<C::Answer>, D), JournalError>
+where
+    C::Answer: Send + Drop,
+    requires name { unnamed.name ≡ J.name }
+{
+    let (journal, seat) = unnamed.named::<J>();
+    let served = serve_clients(rt, alloc, &journal, seat, clients, &OpenGate);
+    let parts = journal.into_single().into_parts();
+    Ok((served?.answers, parts.device))
+}
+
 /// Runs clients over the log of a device.
 fn run_on<D: Device + Send + Drop, G: Gate + Sync, R: Threads + Wait + Sync>(
     rt: &R,
@@ -177,14 +234,15 @@ fn run_on<D: Device + Send + Drop, G: Gate + Sync, R: Threads + Wait + Sync>(
     try_run::<Brand, _, _, _>(rt, alloc, unnamed, plans, gate)
 }
 
-/// Runs clients over a new log in memory.
+/// Runs clients over a new log of so many blocks in memory.
 fn run<G: Gate + Sync, R: Threads + Wait + Sync>(
     rt: &R,
     alloc: Global,
+    log: u32,
     plans: &[Vec<HandlePlan>],
     gate: &G,
 ) -> Result<Summary, JournalError> {
-    let (summary, _device) = run_on(rt, alloc, formatted(alloc, LOG_BLOCKS, 64)?, plans, gate)?;
+    let (summary, _device) = run_on(rt, alloc, formatted(alloc, log, 64)?, plans, gate)?;
     Ok(summary)
 }
 
@@ -204,7 +262,7 @@ fn first_wrong_run<R: Threads + Wait + Sync>(
         entries: 0,
     };
     for _ in 0..RUNS {
-        let summary = run(rt, alloc, plans, &OpenGate)?;
+        let summary = run(rt, alloc, LOG_BLOCKS, plans, &OpenGate)?;
         let is_right = 2 <= summary.committed && summary.committed <= 4 && summary.tally == none;
         if !is_right || counts(&summary) != (0, 4, 4) {
             return Ok(Some(summary));
@@ -215,6 +273,7 @@ fn first_wrong_run<R: Threads + Wait + Sync>(
 
 #[test]
 fn two_clients_run(rt: HostRuntime) -> Result<(), Fail> {
+    fail_if_late(rt)?;
     let plans = two_clients(rt.alloc())?;
     expect(&rt, &first_wrong_run(&rt, rt.alloc(), &plans), &Ok(None));
     Ok(())
@@ -224,86 +283,74 @@ fn two_clients_run(rt: HostRuntime) -> Result<(), Fail> {
 fn run_many<R: Threads + Wait + Sync>(
     rt: &R,
     alloc: Global,
+    log: u32,
     plans: &[Vec<HandlePlan>],
 ) -> Result<((usize, usize, usize), bool), JournalError> {
-    let summary = run(rt, alloc, plans, &OpenGate)?;
+    let summary = run(rt, alloc, log, plans, &OpenGate)?;
     Ok((
         counts(&summary),
         summary.tally.word == summary.tally.entries,
     ))
 }
 
+/// Each client comes at any moment of the other's commit. None waits for ever, and each wait ends with its receipt. A lost wake shows in
+/// short runs rather: the next commit makes it good.
+#[test]
+fn two_clients_wait_a_thousand_times(rt: HostRuntime) -> Result<(), Fail> {
+    fail_if_late(rt)?;
+    let plans = many_clients(rt.alloc(), 2, 1000, true)?;
+    let told = run_many(&rt, rt.alloc(), LOG_BLOCKS, &plans);
+    expect(&rt, &told, &Ok(((0, 2000, 2000), true)));
+    Ok(())
+}
+
+/// On the shortest log each start needs the commit of the handle before it, whoever stopped that. A start that sleeps and lets nobody lead,
+/// or that no seal wakes, never ends.
 #[test]
 fn many_clients_share_a_short_ring(rt: HostRuntime) -> Result<(), Fail> {
-    let plans = many_clients(rt.alloc(), 8, 40)?;
-    let told = run_many(&rt, rt.alloc(), &plans);
-    expect(&rt, &told, &Ok(((0, 320, 160), true)));
-    Ok(())
-}
-
-/// How many receipts there are, and whether the gate gave up.
-fn run_at_once<R: Threads + Wait + Sync>(
-    rt: &R,
-    alloc: Global,
-    plans: &[Vec<HandlePlan>],
-) -> Result<(usize, bool), JournalError> {
-    let gate = Meeting::new();
-    let summary = run(rt, alloc, plans, &gate)?;
-    Ok((summary.receipts, gate.failed()))
-}
-
-#[test]
-fn two_handles_are_open_at_once(rt: HostRuntime) -> Result<(), Fail> {
-    let plans = two_clients(rt.alloc())?;
-    expect(&rt, &run_at_once(&rt, rt.alloc(), &plans), &Ok((4, false)));
-    Ok(())
-}
-
-/// A handle with all six credits of the log and six writes: no other starts until its transaction is sealed.
-fn greedy(alloc: Global, byte: u8, waits: bool) -> Result<HandlePlan, AllocError> {
-    let mut touches = Vec::new(alloc);
-    for block in 0..6 {
-        touches.push(write(alloc, block, byte)?)?;
+    fail_if_late(rt)?;
+    let plans = many_clients(rt.alloc(), 8, 40, false)?;
+    for log in [FEWEST_LOG_BLOCKS, LOG_BLOCKS] {
+        let told = run_many(&rt, rt.alloc(), log, &plans);
+        expect(&rt, &told, &Ok(((0, 320, 160), true)));
     }
-    Ok(HandlePlan {
-        credits: 6,
-        touches,
-        waits,
-    })
+    Ok(())
 }
 
-/// One client with two such handles.
-fn greedy_plans(alloc: Global) -> Result<Vec<Vec<HandlePlan>>, AllocError> {
-    let mut handles = Vec::new(alloc);
-    handles.push(greedy(alloc, 1, false)?)?;
-    handles.push(greedy(alloc, 2, true)?)?;
+/// Two clients of one handle.
+fn two_handles(alloc: Global) -> Result<Vec<Vec<HandlePlan>>, AllocError> {
     let mut plans = Vec::new(alloc);
-    plans.push(handles)?;
+    for block in [3, 4] {
+        let mut plan = Vec::new(alloc);
+        plan.push(one(alloc, 1, block, 7)?)?;
+        plans.push(plan)?;
+    }
     Ok(plans)
 }
 
-/// Stopped handles and receipts; and whether the gate held a write, and gave up.
-fn run_held<R: Threads + Wait + Sync>(
+/// The first run without two receipts of one transaction, and whether its gate gave up.
+fn first_run_apart<R: Threads + Wait + Sync>(
     rt: &R,
     alloc: Global,
     plans: &[Vec<HandlePlan>],
-) -> Result<((usize, usize), (bool, bool)), JournalError> {
-    let gate = Overtaking::new();
-    let device = HeldDevice::new(formatted(alloc, LOG_BLOCKS, 64)?, &gate);
-    let (summary, _device) = run_on(rt, alloc, device, plans, &gate)?;
-    Ok((
-        (summary.handles, summary.receipts),
-        (gate.has_held(), gate.failed()),
-    ))
+) -> Result<Option<(Summary, bool)>, JournalError> {
+    for _ in 0..RUNS {
+        let gate = Meeting::new();
+        let summary = run(rt, alloc, LOG_BLOCKS, plans, &gate)?;
+        if counts(&summary) != (0, 2, 2) || summary.committed != 1 || gate.failed() {
+            return Ok(Some((summary, gate.failed())));
+        }
+    }
+    Ok(None)
 }
 
-/// The second handle can't start before the first one's seal. The first write of the log is held until the second one has written: work on
-/// the front does not wait for the device.
+/// Both handles are open at once, and then both clients wait. The leader waits for the other one's stop, and commits both handles at once.
+/// If stops or a leader that leaves tell nobody, a client sleeps for ever.
 #[test]
-fn a_client_writes_while_a_commit_is_held(rt: HostRuntime) -> Result<(), Fail> {
-    let plans = greedy_plans(rt.alloc())?;
-    let told = run_held(&rt, rt.alloc(), &plans);
-    expect(&rt, &told, &Ok(((2, 1), (true, false))));
+fn two_clients_wait_at_once(rt: HostRuntime) -> Result<(), Fail> {
+    fail_if_late(rt)?;
+    let plans = two_handles(rt.alloc())?;
+    expect(&rt, &first_run_apart(&rt, rt.alloc(), &plans), &Ok(None));
     Ok(())
 }
 
@@ -347,10 +394,11 @@ fn first_bad<R: Threads + Wait + Sync>(
 }
 
 /// Each device call fails in turn. Each client ends with its receipts or with Aborted, and the crash image opens to every transaction with
-/// a receipt.
+/// a receipt. A leader that tells nobody of its failure leaves the others asleep.
 #[test]
 fn a_device_fails_once_under_eight_clients(rt: HostRuntime) -> Result<(), Fail> {
-    let plans = many_clients(rt.alloc(), 8, 6)?;
+    fail_if_late(rt)?;
+    let plans = many_clients(rt.alloc(), 8, 6, false)?;
     expect(&rt, &first_bad(&rt, rt.alloc(), &plans), &Ok(None));
     Ok(())
 }

@@ -1,19 +1,17 @@
 -- The end of a journal that threads shared is an end of its beginning.
-use Rattle.std.proofs.Common.{sym, subst}
-use Rattle.std.specs.Prelude.{◌≡◌, ℕ, Result, Ok, Err, MatchResult}
+use Rattle.std.specs.Prelude.{ℕ, Result, Ok, Err, MatchResult}
 use Rattle.journal_model.specs.declared.refusal.JournalError.{JournalError}
 use Rattle.journal_model.specs.Transaction.{History}
 use Rattle.block_device.specs.State.{DeviceState}
 use Rattle.handle.specs.Name.{JournalId}
 use Rattle.log_epochs.specs.EngineWorld.{Phase}
-use Rattle.log_epochs.specs.EngineWorld.Phase.{Closed, Running, Shut}
+use Rattle.log_epochs.specs.EngineWorld.Phase.{Closed, Shut}
 use Rattle.journal_steps.specs.Values.{JournalValue}
 use Rattle.group_commit.specs.Close.{CloseDid, EndsWith}
 use Rattle.group_commit.specs.Close.CloseDid.{ClosesLog, StaysClean}
-use Rattle.locked_journal.specs.Begun.{ComesFrom, IsEndOf, IsReached}
+use Rattle.locked_journal.specs.Begun.{ComesFrom, IsEndOf}
 use Rattle.locked_journal.proofs.Reaching.{reached-comes}
-use Rattle.shared_journal.specs.Ends.{IsClosedWell, IsNotClosed, WhyNotClosed}
-use Rattle.shared_journal.specs.Ends.WhyNotClosed.{HandleIsOpen, IsRefused}
+use Rattle.shared_journal.specs.Ends.{IsClosedWell, IsNotClosed}
 
 module _ {D : Type 0} (state : D → DeviceState) (honest : D → Type 0) (name : JournalId) (old : JournalValue D) (comes : ComesFrom state honest name old) where
   module _ (device : D) (sealed : History) (committed : ℕ) (back : honest device → honest old.device) where
@@ -30,15 +28,6 @@ module _ {D : Type 0} (state : D → DeviceState) (honest : D → Type 0) (name 
     closed-ends (ClosesLog e) h = ends-with Closed e h
     closed-ends (StaysClean none e) h = ends-with Shut e h
 
-    refused-ends : (e : JournalError) → WhyNotClosed state honest old device sealed committed e → honest device → IsEndOf name (state device).disk sealed
-    refused-ends e (HandleIsOpen some same sealed_is committed_is is) h = record {
-      journal = old.journal;
-      phase = Running;
-      reached = subst (λ (d : D). IsReached name old.journal (state d).disk Running) (sym same) (comes.reached (back h));
-      sealed_is = sealed_is;
-    }
-    refused-ends e (IsRefused why ends went) h = ends-with Shut ends h
-
   -- Whatever a close answers.
   pub result-ends : {P : Type 0} (device : P → D) (sealed : P → History) (committed : P → ℕ) (r : Result P (P × JournalError)) →
       MatchResult r
@@ -48,4 +37,4 @@ module _ {D : Type 0} (state : D → DeviceState) (honest : D → Type 0) (name 
       (λ p. honest (device p) → IsEndOf name (state (device p)).disk (sealed p))
       (λ e. honest (device e.0) → IsEndOf name (state (device e.0)).disk (sealed e.0))
   result-ends device sealed committed (Ok p) did = closed-ends (device p) (sealed p) (committed p) did.left.honest_before did.moves
-  result-ends device sealed committed (Err e) did = refused-ends (device e.0) (sealed e.0) (committed e.0) did.left.honest_before e.1 did.why
+  result-ends device sealed committed (Err e) did = ends-with (device e.0) (sealed e.0) (committed e.0) did.left.honest_before Shut did.ends

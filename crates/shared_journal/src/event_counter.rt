@@ -2,6 +2,11 @@
 
 use std::sync::Wait;
 use std::sync::atomic::{AtomicU64, Ordering};
+use std::thread;
+
+/// How often a thread looks for others that are on their way, and yields: they come within microseconds, unless the processors are taken.
+/// So many yields cost some two hundred microseconds, about as much as a commit on a fast disk.
+const LOOKS: u32 = 200;
 
 /// A count that rises each time something may have become possible. A waiter reads it, checks whether it can go on, and sleeps only
 /// while the count is unchanged. So no event between check and sleep is lost, unless 2^32 events come in between.
@@ -37,6 +42,16 @@ impl EventCounter {
         self.count.fetch_add(1, Ordering::SeqCst);
         if self.sleepers.load(Ordering::SeqCst) != 0 {
             self.count.wake_all();
+        }
+    }
+
+    /// Looks for a short while until there were this many events.
+    pub(crate) fn look_for(&self, count: u64) {
+        for _ in 0..LOOKS {
+            if self.count() >= count {
+                break;
+            }
+            thread::yield_now();
         }
     }
 

@@ -155,18 +155,20 @@ fn commit_one<J: JournalName, D: Device, R: Wait>(
     false
 }
 
-/// The same, and takes turns until all is home.
+/// The same, and takes turns until all is home. The copy is kept until then.
 fn commit_and_checkpoint<J: JournalName, D: Device, R: Wait>(
     rt: &R,
     journal: &Journal<J, D>,
     seat: Seat<J>,
 ) -> bool {
-    if !commit_one(rt, journal, seat) {
+    if !commit_one(rt, journal, seat) || !matches!(journal.keeps_copy(rt, BlockNo(3)), Ok(true)) {
         return false;
     }
     for _ in 0..1000 {
         match journal.checkpoint_turn(rt) {
-            Ok(CheckTurn::Idle) => return true,
+            Ok(CheckTurn::Idle) => {
+                return matches!(journal.keeps_copy(rt, BlockNo(3)), Ok(false));
+            }
             Ok(_) => {}
             Err(_) => return false,
         }

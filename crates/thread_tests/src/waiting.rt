@@ -1,24 +1,20 @@
-//! Calls that wait for credits, a seal or a commit, while another thread takes commit turns; and over a device that fails.
+//! Calls that need credits, a seal or a commit, in a thread that is alone: it takes the turns itself. Also over a device that fails.
 ghost use Rattle.std.specs.Prelude.{◌≡◌};
 
 use crate::expected::expect;
 use crate::journals::unnamed_on;
 use block_device::{Device, MemDevice, StopAt};
 use journal_model::{BlockNo, JournalError, Tid};
-use shared_journal::{Journal, JournalName, Seat, SharedHandle, Turn, UnnamedJournal};
+use shared_journal::{Journal, JournalName, Seat, SharedHandle, UnnamedJournal};
 use std::alloc::Global;
 use std::marker::Brand;
 use std::process::Abort;
 use std::sync::Wait;
-use std::sync::atomic::{AtomicU64, Ordering};
 use std::test::Fail;
-use std::thread::{self, Threads, join};
 use test_logs::formatted;
 
-/// How many turns a thread takes before it gives up.
-const TURNS: u32 = 2_000_000;
-
-/// The state of a journal before its clients come.
+/// The state of a journal before the calls.
+#[derive(Drop)]
 enum Before {
     /// The entries of the running transaction hold all credits.
     Full,
@@ -89,12 +85,11 @@ fn go_through<J: JournalName, D: Device, R: Wait>(
     let mut handle = journal.start(rt, &mut seat, 1)?;
     let first = handle.tid();
     let written = write_blocks(rt, journal, &mut handle, 1);
-    let mut ticket = match journal.restart(rt, handle, &mut seat, journal.capacity()) {
+    let ticket = match journal.restart(rt, handle, &mut seat, journal.capacity()) {
         Ok(other) => journal.stop(rt, other),
         Err((_, e)) => return Err(e),
     };
     written?;
-    journal.request(rt, &mut ticket)?;
     match journal.wait(rt, ticket) {
         Ok(receipt) => {
             let mut receipt = receipt;
@@ -105,56 +100,9 @@ fn go_through<J: JournalName, D: Device, R: Wait>(
     }
 }
 
-/// Takes commit turns until the word is not 0. False if it stayed 0.
-fn take_turns<J: JournalName, D: Device, R: Wait>(
-    rt: &R,
-    journal: &Journal<J, D>,
-    done: &AtomicU64,
-) -> bool {
-    for _ in 0..TURNS {
-        if done.load(Ordering::SeqCst) != 0 {
-            return true;
-        }
-        if !matches!(journal.commit_turn(rt), Ok(Turn::Step | Turn::Sealed(_))) {
-            thread::yield_now();
-        }
-    }
-    false
-}
-
-/// Calls `go_through`, and then sets the word.
-fn go_through_and_notify<J: JournalName, D: Device, R: Wait>(
-    rt: &R,
-    journal: &Journal<J, D>,
-    seat: Seat<J>,
-    done: &AtomicU64,
-) -> Result<(Tid, Tid), JournalError> {
-    let gone = go_through(rt, journal, seat);
-    done.store(1, Ordering::SeqCst);
-    gone
-}
-
-fn go_through_beside_turns<
-    J: JournalName + Send + Sync,
-    D: Device + Send,
-    R: Threads + Wait + Sync,
->(rt: &R, journal: &Journal<J, D>, seat: Seat<J>) -> Result<(Tid, Tid), JournalError> {
-    let done = AtomicU64::new(0);
-    let (gone, turned) = join(
-        rt,
-        || -> Result<(Tid, Tid), JournalError> { go_through_and_notify(rt, journal, seat, &done) },
-        || -> bool { take_turns(rt, journal, &done) },
-    );
-    if turned {
-        gone
-    } else {
-        Err(JournalError::NotRunning)
-    }
-}
-
-/// Prepares a journal so that a start without a wait is refused, and has one thread go through while another takes turns. Returns the
-/// result, and how many transactions are committed after the close.
-fn waited<J: JournalName + Send + Sync, R: Threads + Wait + Abort + Sync>(
+/// Prepares a journal so that a start without a wait is refused, and goes through. Returns the result, and how many transactions are
+/// committed after the close.
+fn waited<J: JournalName, R: Wait + Abort>(
     rt: &R,
     unnamed: UnnamedJournal<StopAt<MemDevice>>,
     before: &Before,
@@ -162,9 +110,6 @@ fn waited<J: JournalName + Send + Sync, R: Threads + Wait + Abort + Sync>(
     requires name { unnamed.name ≡ J.name }
 {
     let (journal, mut seat) = unnamed.named::<J>();
-    let Some(other) = journal.split_seat(&mut seat) else {
-        panic!(rt; "there is no further seat")
-    };
     expect(rt, &prepare(rt, &journal, &mut seat, before), &Ok(()));
     match journal.try_start(rt, &mut seat, 1) {
         Ok(handle) => {
@@ -173,15 +118,15 @@ fn waited<J: JournalName + Send + Sync, R: Threads + Wait + Abort + Sync>(
         }
         Err(e) => assert!(rt; matches!(e, JournalError::Full | JournalError::NotRunning)),
     }
-    let gone = go_through_beside_turns(rt, &journal, other);
+    let gone = go_through(rt, &journal, seat);
     match journal.close() {
         Ok(parts) => (gone, parts.committed),
         Err((parts, _)) => (gone, parts.committed),
     }
 }
 
-/// Over an empty log of 33 blocks in memory, on a device that crashes at write `stop`; 0 is never. A transaction then has at most six credits.
-fn waited_over<R: Threads + Wait + Abort + Sync>(
+/// Over an empty log of 33 blocks in memory, on a device that crashes at write `stop`; 0 is never. A transaction has at most six credits.
+fn waited_over<R: Wait + Abort>(
     rt: &R,
     alloc: Global,
     stop: u64,
@@ -192,26 +137,21 @@ fn waited_over<R: Threads + Wait + Abort + Sync>(
     Ok(waited::<Brand, _>(rt, unnamed, before))
 }
 
-/// A start locks the transaction whose entries hold the credits, and gets them after its seal; so does a restart.
+/// A start commits a transaction whose entries hold the credits, one that is locked, though credits are left, or one that is sealed and
+/// the next. A restart and a wait commit two more. If the device fails in the first of these commits, the start is refused.
 #[test]
-fn a_start_waits_for_credits(rt: HostRuntime) -> Result<(), Fail> {
-    let told = waited_over(&rt, rt.alloc(), 0, &Before::Full)?;
-    expect(&rt, &told, &(Ok((Tid(3), Tid(4))), 3));
-    Ok(())
-}
-
-/// A start waits for the seal of a locked transaction, though credits are left.
-#[test]
-fn a_start_waits_for_a_seal(rt: HostRuntime) -> Result<(), Fail> {
-    let told = waited_over(&rt, rt.alloc(), 0, &Before::Locked)?;
-    expect(&rt, &told, &(Ok((Tid(3), Tid(4))), 3));
-    Ok(())
-}
-
-/// The credits that a start waits for never come back, since the previous commit fails; the start is refused.
-#[test]
-fn a_start_ends_with_the_device(rt: HostRuntime) -> Result<(), Fail> {
-    let told = waited_over(&rt, rt.alloc(), 1, &Before::Sealed)?;
-    expect(&rt, &told, &(Err(JournalError::Aborted), 0));
+fn a_start_and_a_wait_commit_alone(rt: HostRuntime) -> Result<(), Fail> {
+    for (before, stop, expected) in [
+        (Before::Full, 0, (Ok((Tid(3), Tid(4))), 3)),
+        (Before::Locked, 0, (Ok((Tid(3), Tid(4))), 3)),
+        (Before::Sealed, 0, (Ok((Tid(4), Tid(5))), 4)),
+        (Before::Sealed, 1, (Err(JournalError::Aborted), 0)),
+    ] {
+        expect(
+            &rt,
+            &waited_over(&rt, rt.alloc(), stop, &before)?,
+            &expected,
+        );
+    }
     Ok(())
 }

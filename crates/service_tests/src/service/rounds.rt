@@ -1,116 +1,139 @@
-//! Rounds that are made in parts, by the commit worker or by a client that leads commits.
+//! Rounds that nobody asks for: a part by who leads, before the next commit, and whole ones by the checkpoint worker. How many transactions
+//! an opening then finds tells whether they were made.
 ghost use Rattle.std.specs.Prelude.{◌≡◌};
 
-use super::{LOG_BLOCKS, one, run_on};
+use super::gates::LOOKS;
+use super::{LOG_BLOCKS, serve_all, stop_one};
 use crate::expected::expect;
+use crate::late::fail_if_late;
 use block_device::{Device, MemDevice};
-use journal_model::{BlockNo, JournalError};
-use shared_journal::{JournalName, Record, UnnamedJournal};
-use std::alloc::{AllocError, Global};
+use journal_model::{JournalError, Status};
+use shared_journal::{JournalName, Record, SharedTicket, UnnamedJournal};
+use std::alloc::Global;
 use std::marker::Brand;
+use std::process::Abort;
 use std::sync::Wait;
 use std::test::Fail;
-use std::thread::Threads;
-use test_logs::{BLOCK_SIZE, formatted, opened};
+use std::thread::{self, Threads};
+use test_logs::{formatted, opened};
 use thread_tests::journals::unnamed_on;
-use volume_service::{Client, Gate, HandlePlan, OpenGate, Session, serve_clients};
+use volume_service::{Client, Gate, Session};
 
-/// Commits of one block each: they take more than half of the ring, and leave room for the next.
-const COMMITS: u8 = 6;
-
-fn plans(alloc: Global) -> Result<Vec<Vec<HandlePlan>>, AllocError> {
-    let mut plan = Vec::new(alloc);
-    for byte in 0..COMMITS {
-        plan.push(one(alloc, 1, 3, byte)?)?;
-    }
-    let mut plans = Vec::new(alloc);
-    plans.push(plan)?;
-    Ok(plans)
-}
-
-/// Commits that a client leads.
-const LED: u8 = 5;
-
-/// How many transactions were committed, and whether an opening finds fewer in the log.
-fn fewer_left<R: Threads + Wait + Sync>(
-    rt: &R,
-    alloc: Global,
-) -> Result<(u64, bool), JournalError> {
-    let device = formatted(alloc, LOG_BLOCKS, 64)?;
-    let (summary, device) = run_on(rt, alloc, device, &plans(alloc)?, &OpenGate)?;
-    let left = opened(alloc, device)?.report().transactions;
-    Ok((summary.committed, left < summary.committed))
-}
-
-/// Leads the commits of a block.
+/// A client that has groups of handles committed, one group after the other.
 #[derive(Clone, Copy, Debug)]
-struct Leader {
+struct Groups {
     alloc: Global,
-    /// Whether it keeps room after each.
-    keeps_room: bool,
+    groups: u64,
+    /// Handles of a group; each writes a block of its own.
+    handles: u64,
+    /// Whether it waits for each group. If not, it looks until another thread has committed it.
+    waits: bool,
 }
 
-impl<J: JournalName, D: Device, R: Record, G: Gate> Client<J, D, R, G> for Leader {
-    type Answer = Result<(), JournalError>;
+/// How many groups were committed before the next one began.
+type Told = Result<u64, JournalError>;
 
-    fn run<W: Wait>(self, rt: &W, session: &mut Session<'_, J, D, R, G>) -> Result<(), JournalError>
+impl<J: JournalName, D: Device, R: Record, G: Gate> Client<J, D, R, G> for Groups {
+    type Answer = Told;
+
+    fn run<W: Wait>(self, rt: &W, session: &mut Session<'_, J, D, R, G>) -> Told
         ensures { Unit {0} }
     {
-        let bytes = vec![in self.alloc; 7u8; BLOCK_SIZE]?;
-        for _ in 0..LED {
-            let mut handle = session.start(rt, 1)?;
-            let wrote = session.write(rt, &mut handle, BlockNo(3), &bytes);
-            let ticket = session.stop(rt, handle);
-            wrote?;
-            session.commit_up_to(rt, ticket.tid())?;
-            if self.keeps_room {
-                session.room().keep(rt);
+        let mut committed = 0u64;
+        for _ in 0..self.groups {
+            let mut last = stop_one(rt, self.alloc, session, 1, 0, 7)?;
+            for block in 1..self.handles {
+                last = stop_one(rt, self.alloc, session, 1, block, 7)?;
+            }
+            if self.comes_to_commit(rt, session, &last)? {
+                committed = committed.saturating_add(1);
             }
         }
-        Ok(())
+        Ok(committed)
     }
 }
 
-/// How many transactions an opening finds after a leader.
-fn left_by_a_leader<J: JournalName + Send + Sync, R: Threads + Wait + Sync>(
+impl Groups {
+    /// Waits for a ticket's transaction, or looks. Whether it is committed.
+    fn comes_to_commit<J: JournalName, D: Device, R: Record, G: Gate, W: Wait>(
+        &self,
+        rt: &W,
+        session: &mut Session<'_, J, D, R, G>,
+        ticket: &SharedTicket<J, R>,
+    ) -> Result<bool, JournalError> {
+        if self.waits {
+            session.wait_for(rt, ticket.tid())?;
+            return Ok(session.status(ticket) == Status::Committed);
+        }
+        for _ in 0..LOOKS {
+            if session.status(ticket) == Status::Committed {
+                return Ok(true);
+            }
+            thread::yield_now();
+        }
+        Ok(false)
+    }
+}
+
+/// Runs them over a journal of this name.
+fn serve<J: JournalName + Send + Sync, R: Threads + Wait + Sync>(
     rt: &R,
     alloc: Global,
     unnamed: UnnamedJournal<MemDevice>,
-    keeps_room: bool,
-) -> Result<u64, JournalError>
+    clients: Vec<Groups>,
+) -> Result<(Vec<Told>, MemDevice), JournalError>
     requires name { unnamed.name ≡ J.name }
 {
-    let mut leaders = Vec::new(alloc);
-    leaders.push(Leader { alloc, keeps_room })?;
-    let (journal, seat) = unnamed.named::<J>();
-    let served = serve_clients(rt, alloc, &journal, seat, leaders, &OpenGate);
-    let parts = journal.into_single().into_parts();
-    for led in served?.answers {
-        led?;
-    }
-    Ok(opened(alloc, parts.device)?.report().transactions)
+    serve_all::<J, _, _, _>(rt, alloc, unnamed, clients)
 }
 
-/// The same over a new log in memory.
+/// Runs such a client over a new log. Returns its answer, and how many transactions an opening finds.
 fn left<R: Threads + Wait + Sync>(
     rt: &R,
     alloc: Global,
-    keeps_room: bool,
-) -> Result<u64, JournalError> {
+    (groups, handles, waits): (u64, u64, bool),
+) -> Result<(Vec<Told>, u64), JournalError> {
+    let mut clients = Vec::new(alloc);
+    clients.push(Groups {
+        alloc,
+        groups,
+        handles,
+        waits,
+    })?;
     let unnamed = unnamed_on(alloc, formatted(alloc, LOG_BLOCKS, 64)?)?;
-    left_by_a_leader::<Brand, _>(rt, alloc, unnamed, keeps_room)
+    let (told, device) = serve::<Brand, _>(rt, alloc, unnamed, clients)?;
+    Ok((told, opened(alloc, device)?.report().transactions))
 }
 
-/// A round is over after the second commit, and after the fifth. Without `room` a sixth would make the last one.
-#[test]
-fn a_leader_makes_rounds_too(rt: HostRuntime) -> Result<(), Fail> {
-    expect(&rt, &left(&rt, rt.alloc(), true), &Ok(0));
-    expect(&rt, &left(&rt, rt.alloc(), false), &Ok(3));
+/// Asserts how many of so many groups are committed in time, and how many transactions an opening finds.
+fn expect_left<R: Threads + Wait + Abort + Sync>(
+    rt: &R,
+    alloc: Global,
+    groups: (u64, u64, bool),
+    expected: u64,
+) -> Result<(), JournalError> {
+    let (told, left) = left(rt, alloc, groups)?;
+    expect(rt, &told.first(), &Some(&Ok(groups.0)));
+    expect(rt, &left, &expected);
     Ok(())
 }
 
+/// Six commits of one block take more than half of the ring, and a seventh leader makes the round that is then due. One that never does
+/// leaves all nine.
 #[test]
-fn a_round_is_made_before_the_ring_lacks_room(rt: HostRuntime) -> Result<(), Fail> {
-    expect(&rt, &fewer_left(&rt, rt.alloc()), &Ok((6, true)));
+fn a_leader_makes_the_part_of_a_round_that_is_owed(rt: HostRuntime) -> Result<(), Fail> {
+    fail_if_late(rt)?;
+    expect_left(&rt, rt.alloc(), (6, 1, true), 6)?;
+    expect_left(&rt, rt.alloc(), (9, 1, true), 3)?;
+    Ok(())
+}
+
+/// Three handles take half of the credits, so that the commit worker commits them. Four such commits take more than half of the ring, and
+/// the checkpoint worker makes the round: nobody leads after them.
+#[test]
+fn what_nobody_waits_for_is_committed_and_brought_home(rt: HostRuntime) -> Result<(), Fail> {
+    fail_if_late(rt)?;
+    expect_left(&rt, rt.alloc(), (3, 3, false), 3)?;
+    expect_left(&rt, rt.alloc(), (4, 3, false), 0)?;
     Ok(())
 }

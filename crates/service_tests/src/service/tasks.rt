@@ -1,14 +1,15 @@
-//! Tasks over a device in memory: what a flush answers and leaves, alone and beside others; and the commit of handles that nobody waits
-//! for.
-use super::LOG_BLOCKS;
+//! Tasks over a device in memory: what a flush answers and leaves, alone and beside others; and a wait for a transaction that nobody has
+//! joined yet.
+use super::gates::pause;
+use super::{LOG_BLOCKS, stop_one};
 use crate::expected::expect;
+use crate::late::fail_if_late;
 use block_device::{Device, MemDevice};
-use journal_model::{BlockNo, JournalError, Status, Tid};
-use shared_journal::{JournalName, Record, SharedTicket, Unrecorded};
+use journal_model::{JournalError, Status, Tid};
+use shared_journal::{JournalName, Record, Unrecorded};
 use std::alloc::Global;
 use std::sync::Wait;
 use std::test::Fail;
-use std::thread;
 use std::thread::Threads;
 use test_logs::formatted;
 use thread_tests::journals::unnamed_on;
@@ -23,16 +24,18 @@ const TASKS: u64 = 8;
 /// How many handles each of them has.
 const HANDLES: u64 = 50;
 
-/// How often a task looks whether a transaction is committed.
-const LOOKS: u64 = 2_000_000;
+/// The first transaction of a new log.
+const FIRST: Tid = Tid(2);
 
 /// What a task does.
 #[derive(Clone, Copy, Debug)]
 enum Job {
     /// Flushes an empty journal, flushes after three handles, and flushes again.
     Flushes,
-    /// Stops handles for half of the credits, and waits for none.
-    Streams,
+    /// Waits for the first transaction.
+    Awaits,
+    /// Stops a handle after a while, and waits for nobody.
+    Stops,
     /// Flushes after every fifth handle, and checks that its own are committed.
     Beside(u64),
 }
@@ -46,20 +49,6 @@ struct Worker {
 /// A task's answer: numbers, and whether all is as expected.
 type Told = Result<([Tid; 3], bool), JournalError>;
 
-fn write_one<J: JournalName, D: Device, R: Record, G: Gate, W: Wait>(
-    rt: &W,
-    alloc: Global,
-    session: &mut Session<'_, J, D, R, G>,
-    block: u64,
-) -> Result<SharedTicket<J, R>, JournalError> {
-    let bytes = vec![in alloc; 7u8; session.block_size()]?;
-    let mut handle = session.start(rt, 1)?;
-    let wrote = session.write(rt, &mut handle, BlockNo(block), &bytes);
-    let ticket = session.stop(rt, handle);
-    wrote?;
-    Ok(ticket)
-}
-
 /// Returns the three numbers, and whether all three tickets then had their receipts without a wait.
 fn flush_thrice<J: JournalName, D: Device, R: Record, G: Gate, W: Wait>(
     rt: &W,
@@ -67,9 +56,9 @@ fn flush_thrice<J: JournalName, D: Device, R: Record, G: Gate, W: Wait>(
     session: &mut Session<'_, J, D, R, G>,
 ) -> Told {
     let empty = session.flush(rt)?;
-    let first = write_one(rt, alloc, session, 3)?;
-    let second = write_one(rt, alloc, session, 4)?;
-    let last = write_one(rt, alloc, session, 4)?;
+    let first = stop_one(rt, alloc, session, 1, 3, 7)?;
+    let second = stop_one(rt, alloc, session, 1, 4, 7)?;
+    let last = stop_one(rt, alloc, session, 1, 4, 7)?;
     let before = session.last_joined(rt);
     let flushed = session.flush(rt)?;
     let committed = session.status(&first) == Status::Committed;
@@ -87,25 +76,14 @@ fn flush_thrice<J: JournalName, D: Device, R: Record, G: Gate, W: Wait>(
     ))
 }
 
-/// Returns whether the first one's transaction was committed all the same.
-fn stream<J: JournalName, D: Device, R: Record, G: Gate, W: Wait>(
+fn stop_later<J: JournalName, D: Device, R: Record, G: Gate, W: Wait>(
     rt: &W,
     alloc: Global,
     session: &mut Session<'_, J, D, R, G>,
 ) -> Told {
-    let first = write_one(rt, alloc, session, 3)?;
-    let tid = first.tid();
-    write_one(rt, alloc, session, 4)?;
-    write_one(rt, alloc, session, 5)?;
-    let mut committed = false;
-    for _ in 0..LOOKS {
-        committed = session.status(&first) == Status::Committed;
-        if committed {
-            break;
-        }
-        thread::yield_now();
-    }
-    Ok(([tid, tid, tid], committed))
+    pause();
+    let tid = stop_one(rt, alloc, session, 1, 3, 7)?.tid();
+    Ok(([tid, tid, tid], true))
 }
 
 /// Five handles, a flush, and a check of each ticket.
@@ -117,7 +95,7 @@ fn five_and_flush<J: JournalName, D: Device, R: Record, G: Gate, W: Wait>(
 ) -> Result<bool, JournalError> {
     let mut tickets = Vec::new(alloc);
     for n in 0..5u64 {
-        let ticket = write_one(rt, alloc, session, block.saturating_add(n))?;
+        let ticket = stop_one(rt, alloc, session, 1, block.saturating_add(n), 7)?;
         if tickets.push(ticket).is_err() {
             return Err(JournalError::Memory);
         }
@@ -154,7 +132,11 @@ impl<D: Device, R: Record, G: Gate> Task<D, R, G> for Worker {
     {
         match self.job {
             Job::Flushes => flush_thrice(rt, self.alloc, session),
-            Job::Streams => stream(rt, self.alloc, session),
+            Job::Awaits => {
+                session.wait_for(rt, FIRST)?;
+                Ok(([FIRST, FIRST, FIRST], true))
+            }
+            Job::Stops => stop_later(rt, self.alloc, session),
             Job::Beside(block) => flush_beside(rt, self.alloc, session, block),
         }
     }
@@ -189,22 +171,24 @@ fn a_flush_has_all_stopped_handles_committed(rt: HostRuntime) -> Result<(), Fail
     Ok(())
 }
 
+/// Nothing is there to commit when two tasks begin to wait. If the stop of the third tells nobody, they wait for ever.
 #[test]
-fn a_stream_is_committed_before_it_is_refused(rt: HostRuntime) -> Result<(), Fail> {
-    let Ok((told, _, closed)) = run(&rt, rt.alloc(), &[Job::Streams]) else {
-        return Err("the task is not run".into());
+fn a_wait_for_a_number_ends_though_nobody_has_joined_it_yet(rt: HostRuntime) -> Result<(), Fail> {
+    fail_if_late(rt)?;
+    let jobs = [Job::Awaits, Job::Awaits, Job::Stops];
+    let Ok((told, _, closed)) = run(&rt, rt.alloc(), &jobs) else {
+        return Err("the tasks are not run".into());
     };
-    expect(
-        &rt,
-        &told.first(),
-        &Some(&Ok(([Tid(2), Tid(2), Tid(2)], true))),
-    );
-    expect(&rt, &closed, &true);
+    for one in &told {
+        expect(&rt, one, &Ok(([FIRST, FIRST, FIRST], true)));
+    }
+    expect(&rt, &(told.len(), closed), &(3, true));
     Ok(())
 }
 
 #[test]
 fn eight_tasks_flush_beside_one_another(rt: HostRuntime) -> Result<(), Fail> {
+    fail_if_late(rt)?;
     let mut jobs = Vec::new(rt.alloc());
     for n in 0..TASKS {
         jobs.push(Job::Beside(n * 5))?;

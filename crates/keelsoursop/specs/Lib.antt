@@ -1,0 +1,23 @@
+-- The definitions that clauses of these calls cite: those of each crate, under its name.
+pub use Rattle.journal_model.specs as journal_model
+pub use Rattle.log_model.specs as log_model
+pub use Rattle.block_device.specs as block_device
+pub use Rattle.file_device.specs as file_device
+pub use Rattle.log_format.specs as log_format
+pub use Rattle.log_scan.specs as log_scan
+pub use Rattle.journal_world.specs as journal_world
+pub use Rattle.log_epochs.specs as log_epochs
+pub use Rattle.recovery.specs as recovery
+pub use Rattle.damaged_logs.specs as damaged_logs
+pub use Rattle.log_engine.specs as log_engine
+pub use Rattle.journal_front.specs as journal_front
+pub use Rattle.journal_steps.specs as journal_steps
+pub use Rattle.group_commit.specs as group_commit
+pub use Rattle.handle.specs as handle
+pub use Rattle.journal_sides.specs as journal_sides
+pub use Rattle.locked_journal.specs as locked_journal
+pub use Rattle.shared_journal.specs as shared_journal
+pub use Rattle.volume_service.specs as volume_service
+pub use Rattle.byte_volume.specs as byte_volume
+pub use Rattle.nbd_protocol.specs as nbd_protocol
+pub use Rattle.nbd_server.specs as nbd_server
