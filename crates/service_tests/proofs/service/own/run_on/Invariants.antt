@@ -1,5 +1,0 @@
-use Rattle.service_tests.proofs.service.own.run_on.Given as goal
-
--- the name is the unnamed journal's
-abbrev pub ghosts-look : goal.ghosts-look
-ghosts-look g a = record { name = a.unnamed.name }
