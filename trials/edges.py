@@ -1,5 +1,5 @@
 #!/usr/bin/env -S python3 -B
-"""`jbench` at paths that are no regular files, or the same one twice: two lines each, exit status 1, no wait, and nothing is left behind.
+"""`jbench` at paths that are neither regular files nor block devices, or the same one twice: two lines each, exit status 1, no wait, and nothing is left behind.
 
 usage: edges.py [--program PATH]
 
@@ -32,7 +32,7 @@ COMMANDS = {  # the words of each, and which of them are files
 
 
 def make_odd(folder):
-    """Paths that are there and are no regular files."""
+    """Paths that are there and are neither regular files nor block devices."""
     os.mkfifo(folder / "pipe")
     (folder / "folder").mkdir()
     socket.socket(socket.AF_UNIX).bind(str(folder / "socket"))

@@ -79,12 +79,13 @@ class Session:
 
     def __init__(self, h, model, draw, cases):
         self.h, self.model, self.draw, self.cases = h, model, draw, cases
-        self.size, self.wrong = len(model.held), []
+        self.size, self.wrong, self.going = len(model.held), [], {}
 
     def answered(self, what, wanted=0, check=None, buffer=None):
         """What is called when an operation is answered. It holds the operation's buffer until then."""
 
         def completed(error, _buffer=buffer):
+            self.going.pop(what, None)
             if error.value != wanted:
                 self.wrong.append(f"{what} is answered with {error.value}, not {wanted}")
             elif check and not check():
@@ -92,6 +93,12 @@ class Session:
             return 1
 
         return completed
+
+    def begin(self, what, is_read, at, n):
+        """Waits for what meets these bytes, if one of both is a read: such requests may be performed in any order. Then notes this one."""
+        while any(other != is_read and at < past and first < at + n for other, first, past in self.going.values()):
+            self.h.poll(-1)
+        self.going[what] = (is_read, at, at + n)
 
     def once(self):
         draw, what, at = self.draw, self.draw.random(), self.draw.randrange(self.size)
@@ -102,6 +109,7 @@ class Session:
         fua = nbd.CMD_FLAG_FUA if draw.random() < 0.1 else 0
         if what < 0.45:
             data = draw.randbytes(n)
+            self.begin(f"write {at} {n}", False, at, n)
             self.model.write(at, data)
             buffer = nbd.Buffer.from_bytearray(bytearray(data))
             self.h.aio_pwrite(buffer, at, self.answered(f"write {at} {n}", buffer=buffer), fua)
@@ -110,10 +118,12 @@ class Session:
             self.read(at, n)
             self.cases["reads"] += 1
         elif what < 0.87:
+            self.begin(f"zeros {at} {n}", False, at, n)
             self.model.write(at, bytes(n))
             self.h.aio_zero(n, at, self.answered(f"zeros {at} {n}"), fua)
             self.cases["zeros"] += 1
         elif what < 0.92:
+            self.begin(f"trim {at} {n}", False, at, n)
             self.model.trim(at, n)
             self.h.aio_trim(n, at, self.answered(f"trim {at} {n}"), fua)
             self.cases["trims"] += 1
@@ -128,6 +138,7 @@ class Session:
 
     def read(self, at, n):
         into, model = nbd.Buffer(n), self.model
+        self.begin(f"read {at} {n}", True, at, n)
         wanted, unknown = model.blanked(at, model.held[at : at + n]), set(model.unknown)
 
         def same():

@@ -1,22 +1,27 @@
 #!/usr/bin/python3 -B
-"""Kills `jbench serve` while writes, zeros, flushes and changes with FUA are on their way, starts it again, and looks: the volume has to hold
-the first of the writes that were sent, each whole, up to one that is no earlier than any that an answered flush or FUA covers.
+"""Kills `jbench serve` while writes, zeros, trims, flushes and changes with FUA are on their way, starts it again, and looks: the volume
+has to be what the first k of the changes that were sent made of it, in their order, with k no earlier than any that an answered flush or
+FUA covers.
 
     serve_killed.py [--program PATH] [--rounds N] [--seed N] [--seconds S] [--folder FOLDER]
 
-There are N rounds (default: 20), a few over each volume, and S seconds of writes in each at most (default: 0.6). Writes begin and end anywhere
-and overlap; one in fifty is longer than a transaction takes, of which each block has to be whole. A flush covers the writes that were answered
-before it was sent, by libnbd's own account. Now and then the next server is killed too, while it opens the log. A round that finds fewer
-writes than were covered is lost, and one that finds no first writes at all is torn. It ends with status 1 if there is any. An interrupt has it
-print what it counted.
+There are N rounds (default: 20), a few over each volume, and S seconds of changes in each at most (default: 0.6). Changes begin and end
+anywhere and overlap; one in fifty may be longer than a transaction takes, of which the first handles may be there. A flush covers the
+changes that were answered before it was sent, by libnbd's own account. In one round of five the client leaves instead, without saying so,
+and the server ends by itself. Now and then the next server is killed too, while it opens the log. prefix.py judges, and is itself tried
+first. A round that finds fewer changes than were covered is lost, and one that finds no first changes at all is torn. It ends with status 1
+if there is any. An interrupt has it print what it counted.
 
-A kill leaves what the system was given: it is no loss of power, which is what serve_power.py is for. When a kill comes is up to the machine, so the
-same seed does not give the same kills. It wants Debian's python3-libnbd. The program is `./jbench`, which is built first, or the one at
-PATH; the files are made in a folder of FOLDER (default: /dev/shm, a memory file system).
+A kill leaves what the system was given: it is no loss of power, which is what serve_power.py is for. When a kill comes is up to the
+machine, so the same seed does not give the same kills. It wants Debian's python3-libnbd. The program is `./jbench`, which is built first,
+or the one at PATH; the files are made in a folder of FOLDER (default: /dev/shm, a memory file system).
 """
 import argparse
 import collections
+import errno
+import os
 import random
+import socket
 import sys
 import tempfile
 import threading
@@ -24,18 +29,22 @@ import time
 
 import nbd
 
-from served import Volume, Written, add_program, capacity_of, read_all
+from prefix import SECTOR, Changes, stamped, try_judge
+from served import Volume, add_program, capacity_of, read_all
 
 SHAPES = [(1024, 129, 1024), (1024, 1025, 2048), (4096, 257, 512), (4096, 2049, 1024)]  # block size, log blocks, home blocks
+INTERVALS = [(), ("--commit-interval", "0"), ("--commit-interval", "1")]
+MOST = 200_000  # bytes of a change, of most
 
 
 class Client:
-    """Sends requests until its server is gone, and notes which writes are covered."""
+    """Sends requests until its server is gone, and notes which changes are covered."""
 
-    def __init__(self, h, written, draw, cases):
-        self.h, self.written, self.draw, self.cases = h, written, draw, cases
-        self.block, self.size, self.capacity = written.block, h.get_size(), capacity_of(h)
-        self.answered, self.covered, self.last = 0, 0, 0
+    def __init__(self, h, changes, draw, cases):
+        self.h, self.changes, self.draw, self.cases = h, changes, draw, cases
+        self.block, self.size, self.capacity = changes.block, h.get_size(), changes.capacity
+        self.answered, self.covered, self.refused, self.changed = 0, 0, 0, (0, self.size)
+        self.flushes, self.fua = draw.choice(((0.12, 0.06), (0.01, 0), (0, 0.01), (0.002, 0.002)))  # how often
 
     def noted(self, what, number, covers, buffer=None):
         """What is called when a request is answered: a change up to `number`, which covers all up to `covers`."""
@@ -44,36 +53,48 @@ class Client:
             if error.value == 0:
                 self.answered, self.covered = max(self.answered, number), max(self.covered, covers)
                 self.cases[f"{what} answered"] += 1
+            elif error.value != errno.ENOTCONN:
+                self.cases["requests refused"] += 1
+                self.refused += 1
             return 1
 
         return completed
 
     def length(self, at):
-        most = self.capacity * self.block - at % self.block
+        most = min(self.capacity * self.block - at % self.block, MOST)
         if self.draw.random() < 0.02:
             most = 3 * self.capacity * self.block
         elif self.draw.random() < 0.7:
             most = min(most, 4 * self.block)
-        return min(self.draw.randrange(1, most + 1), self.size - at)
+        count = self.draw.randrange(1, most + 1)
+        if self.draw.random() < 0.5 and count > SECTOR:
+            count -= count % SECTOR
+        return min(count, self.size - at)
 
     def once(self):
-        draw, what = self.draw, self.draw.random()
-        if what < 0.12:
+        draw = self.draw
+        if draw.random() < self.flushes:
             # what is answered by now is covered once this is answered
             self.h.aio_flush(self.noted("flushes", 0, self.answered))
             return
-        at = draw.randrange(self.size)
+        # many begin within the change before, since only those that overlap show their order
+        first, count = self.changed if draw.random() < 0.5 else (0, self.size)
+        at, what = first + draw.randrange(count), draw.choices(("write", "zeros", "trim"), (8, 1, 1))[0]
         if draw.random() < 0.5:
             at = at // self.block * self.block
-        n, fua = self.length(at), draw.random() < 0.06
-        data = bytes(n) if what < 0.2 else draw.randbytes(min(n, 16)) * (n // 16 + 1)
-        number = self.written.add(at, data[:n], self.capacity)
-        noted = lambda buffer: self.noted("changes with FUA" if fua else "changes", number, number if fua else 0, buffer)
-        if what < 0.2:
-            self.h.aio_zero(n, at, noted(None), nbd.CMD_FLAG_FUA if fua else 0)
+        n, flag = self.length(at), nbd.CMD_FLAG_FUA if draw.random() < self.fua else 0
+        self.changed = (at, n)
+        data = bytes(n) if what == "zeros" else stamped(at, n)
+        number = self.changes.trim(at, n) if what == "trim" else self.changes.write(at, data)
+        self.cases["changes sent"] += 1
+        noted = lambda buffer=None: self.noted(("FUA " if flag else "") + what, number, number if flag else 0, buffer)
+        if what == "trim":
+            self.h.aio_trim(n, at, noted(), flag)
+        elif what == "zeros":
+            self.h.aio_zero(n, at, noted(), flag)
         else:
-            buffer = nbd.Buffer.from_bytearray(bytearray(data[:n]))
-            self.h.aio_pwrite(buffer, at, noted(buffer), nbd.CMD_FLAG_FUA if fua else 0)
+            buffer = nbd.Buffer.from_bytearray(bytearray(data))
+            self.h.aio_pwrite(buffer, at, noted(buffer), flag)
 
     def run(self, depth):
         try:
@@ -81,24 +102,39 @@ class Client:
                 self.once()
                 while self.h.aio_in_flight() > depth:
                     self.h.poll(-1)
+                if self.refused > 100:
+                    time.sleep(0.001)  # a server that takes no more changes: each one that is sent has to be judged
         except nbd.Error:
             return
 
+    def judge(self, found):
+        """What the changes left: `whole`, `lost` or `torn`, which is counted, and told where it is not whole."""
+        verdict, n = self.changes.verdict(found, self.covered)
+        self.cases["handles sent"] += len(self.changes.pieces)
+        self.cases["handles covered"] += self.covered
+        self.cases["handles found"] += n
+        self.cases["rounds that find more than was covered"] += n > self.covered
+        if verdict != "whole":
+            sent = f"{self.covered} covered and {len(self.changes.pieces)} sent"
+            print(f"{verdict}: {n} found of {sent}; {self.changes.nearest}")
+        return verdict
+
 
 def one_round(volume, held, draw, seconds, cases):
-    """Writes, a kill, and what is found then: `whole`, `lost` or `torn`, and the bytes of the volume."""
-    server, h = volume.connect()
+    """Changes, a kill, and what is found then: `whole`, `lost` or `torn`, and the bytes of the volume."""
+    server, h = volume.connect(*draw.choice(INTERVALS))
     if read_all(h) != held:
         return "changed since", held
-    written = Written(held, volume.block)
-    client = Client(h, written, draw, cases)
-    killer = threading.Timer(draw.uniform(0.01, seconds), server.kill)
+    client = Client(h, Changes(held, volume.block, capacity_of(h)), draw, cases)
+    line, leaves = socket.socket(fileno=os.dup(h.aio_get_fd())), draw.random() < 0.2
+    killer = threading.Timer(draw.uniform(0.01, seconds), lambda: line.shutdown(socket.SHUT_RDWR) if leaves else server.kill())
     killer.start()
     client.run(draw.choice((1, 4, 16, 64)))
     killer.join()
     server.wait()
-    least = client.covered
-    del client, h
+    line.close()
+    cases["servers killed"] += not leaves
+    cases["clients left"] += leaves
     if draw.random() < 0.3:
         server, ours = volume.serve()
         time.sleep(draw.uniform(0, 0.03))
@@ -112,11 +148,7 @@ def one_round(volume, held, draw, seconds, cases):
     del h
     if server.wait() != 0:
         return "a server that ends badly", found
-    verdict, n = written.verdict(found, least)
-    cases["changes sent"] += len(written.pieces)
-    cases["changes covered"] += least
-    cases["changes found"] += n
-    return verdict, found
+    return client.judge(found), found
 
 
 def main():
@@ -127,6 +159,7 @@ def main():
     a.add_argument("--seconds", type=float, default=0.6)
     a.add_argument("--folder", default="/dev/shm")
     a = a.parse_args()
+    try_judge(random.Random(a.seed), 2)
     draw, cases, verdicts, left = random.Random(a.seed), collections.Counter(), collections.Counter(), a.rounds
     try:
         while left:

@@ -1,17 +1,19 @@
 #!/usr/bin/python3 -B
 """Losses of power under `jbench serve`, of its traced calls: at a moment of the trace each block of the two files holds what was synced, or
-what any call wrote there since. `recover` then has to bring home the first of the writes that were sent, each whole, up to one that is no
-earlier than any that an answered flush or FUA covers.
+what any call wrote there since. `recover` then has to bring home what the first k of the changes that were sent made, in their order, with
+k no earlier than any that an answered flush or FUA covers.
 
     serve_power.py [--program PATH] [--runs N] [--images N] [--requests N] [--seed N]
 
 There are N runs (default: 10) of N requests (default: 300), and so many images of each (default: 100), at moments that are drawn from the
 opening of the log to its close. A write counts from its call on, a sync covers what had returned before it was called, and an answer counts
-from the call that sends it. What an image keeps of each block that was not synced is drawn: the old block, the newest, or any. Of one image in
-ten the recovery is traced and cut as well, and the next one has to bring home the same. Requests are those of serve_killed.py, which come up
-to 32 at once. It ends with status 1 at the first image that is not as it has to be, and names it. An interrupt has it print what it counted.
+from the call that sends it. What an image keeps of each block that was not synced is drawn: the old block, the newest, or any. Of one image
+in ten the recovery is traced and cut as well, and the next one has to bring home the same bytes. Requests are those of serve_killed.py,
+which come up to 32 at once. prefix.py judges, and is itself tried first. It ends with status 1 at the first image that is not as it has to
+be, and names it. An interrupt has it print what it counted.
 
-It wants strace 6 and Debian's python3-libnbd. The program is `./jbench`, which is built first, or the one at PATH; files are made in /dev/shm.
+It wants strace 6 and Debian's python3-libnbd. The program is `./jbench`, which is built first, or the one at PATH; files are made in
+/dev/shm.
 """
 import argparse
 import collections
@@ -25,8 +27,9 @@ from pathlib import Path
 
 import nbd
 
-from serve_killed import Client
-from served import Volume, Written, add_program
+from prefix import Changes, try_judge
+from serve_killed import INTERVALS, Client
+from served import Volume, add_program, capacity_of
 
 SHAPES = [(1024, 65, 200), (1024, 129, 400), (1024, 1025, 300), (4096, 65, 64)]  # block size, log blocks, home blocks
 CALLS = "write,writev,sendto,sendmsg,pwrite64,pwritev,pwritev2,fsync,fdatasync,sync_file_range,ftruncate,fallocate"
@@ -178,7 +181,7 @@ class Noting(Client):
 
             def __getattr__(self, name):
                 call = getattr(handle, name)
-                if name not in ("aio_pwrite", "aio_zero", "aio_flush"):
+                if name not in ("aio_pwrite", "aio_zero", "aio_trim", "aio_flush"):
                     return call
 
                 def noting(*words):
@@ -221,9 +224,10 @@ def one_run(program, folder, draw, requests, images, cases):
     """Nothing, where all images are as they have to be."""
     volume, trace = Volume(program, folder, *draw.choice(SHAPES)), Path(folder) / "trace"
     files = [volume.log, volume.home]
-    disk, written = Disk(files, volume.block), Written(volume.home.read_bytes(), volume.block)
-    server, h = volume.connect(before=[*STRACE, "-o", str(trace)])
-    client = Noting(h, written, draw, cases)
+    disk, held = Disk(files, volume.block), volume.home.read_bytes()
+    server, h = volume.connect(*draw.choice(INTERVALS), before=[*STRACE, "-o", str(trace)])
+    changes = Changes(held, volume.block, capacity_of(h))
+    client = Noting(h, changes, draw, cases)
     client.run_requests(requests, draw.choice((1, 4, 32)))
     h.shutdown()
     covers = client.covers
@@ -244,16 +248,18 @@ def one_run(program, folder, draw, requests, images, cases):
             least = least if error else max(least, covers.get(cookie, 0))
         kept, choices = disk.image(draw)
         done = recover(volume, kept)
-        verdict, n = written.verdict(volume.home.read_bytes(), least)
+        found = volume.home.read_bytes()
+        verdict, n = changes.verdict(found, least)
         if done.returncode == 0 and verdict == "whole" and draw.random() < 0.1:
             cases["recoveries cut"] += 1
             done = recover(volume, cut_recovery(volume, kept, draw, trace))
-            verdict, n = written.verdict(volume.home.read_bytes(), n)
+            verdict = verdict if volume.home.read_bytes() == found else "not as the recovery before"
         cases["images"] += 1
         cases["images with a choice"] += choices > 0
         cases["images that find more than was covered"] += n > least
         if done.returncode or verdict != "whole":
-            return f"moment {moment} of {len(events)}: {verdict}, {n} found of {least} covered and {len(written.pieces)} sent; {done.stderr}"
+            sent = f"{len(changes.pieces)} sent; {changes.nearest}; {done.stderr}"
+            return f"moment {moment} of {len(events)}: {verdict}, {n} found of {least} covered and {sent}"
     return None
 
 
@@ -265,6 +271,7 @@ def main():
     a.add_argument("--requests", type=int, default=300)
     a.add_argument("--seed", type=int, default=1)
     a = a.parse_args()
+    try_judge(random.Random(a.seed), 2)
     cases, wrong = collections.Counter(), None
     try:
         for seed in range(a.seed, a.seed + a.runs):

@@ -1,6 +1,7 @@
 #!/usr/bin/env -S python3 -B
 """Random requests, given to `jbench serve` as one stream each: all that it answers, and the home area that it leaves, are compared with the
-model of `serve_rows.py`. It wants no client of NBD. Answers may come in another order than requests: each is compared by its cookie.
+model of `serve_rows.py`. It wants no client of NBD. Answers may come in another order than requests: each is compared by its cookie. Requests
+have less than 64 KiB, since reads may overtake longer changes.
 
     serve_streams.py [--program PATH] COUNT SEED
 """
@@ -13,7 +14,7 @@ import serve_rows as model
 
 BLOCKS = 1024
 MOST_SENT, MOST_READ = 3 << 20, 1 << 20
-LENGTHS = [1, 7, 512, 1024, 4096, 5000, 65536, 300000]
+LENGTHS = [1, 7, 512, 1024, 4096, 5000, 30000, 60000]
 
 
 class Connection(model.Connection):
@@ -48,6 +49,7 @@ def refused(c, cookie):
 def trimmed(c, cookie, at, n):
     """a trim of blocks, which are written again, so that it is told what they hold"""
     old, first = bytes(c.home), at // model.BLOCK * model.BLOCK
+    c.filled.clear()  # nobody reads what they hold between the two
     c.request(4, cookie, at, n)
     c.request(1, cookie, first, data=old[first : -(-(at + n) // model.BLOCK) * model.BLOCK])
 

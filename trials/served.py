@@ -1,6 +1,6 @@
 #!/usr/bin/python3 -B
-"""What the scripts around `jbench serve` share: a volume in two files, its server with a socket as standard input and output, and what a
-list of writes may leave. It wants Debian's python3-libnbd.
+"""What the scripts around `jbench serve` share: a volume in two files, and its server with a socket as standard input and output. It wants
+Debian's python3-libnbd.
 
     served.py SOCKET PROGRAM WORD..     runs that command for each connection to SOCKET, one after the other, as inetd does
 """
@@ -65,48 +65,6 @@ def read_all(h):
     """All bytes of a volume."""
     step = 8 << 20
     return b"".join(h.pread(min(step, h.get_size() - at), at) for at in range(0, h.get_size(), step))
-
-
-class Written:
-    """Writes in the order in which they were sent, and what a volume holds after the first of them. A number stands for so many pieces,
-    each of which is whole or absent."""
-
-    def __init__(self, held, block):
-        self.first, self.block, self.pieces = bytes(held), block, []
-
-    def add(self, at, data, capacity):
-        """A write. The answer is its number. One that lies in more blocks than the capacity may be there up to each of its blocks."""
-        if -(-(at + len(data)) // self.block) - at // self.block <= capacity:
-            self.pieces.append((at, data))
-        else:
-            while data:
-                some = self.block - at % self.block
-                self.pieces.append((at, data[:some]))
-                at, data = at + some, data[some:]
-        return len(self.pieces)
-
-    def number(self, found, least):
-        """The first number from `least` on after which a volume holds what is found; nothing if there is none."""
-        now, size = bytearray(self.first), self.block
-        for at, data in self.pieces[:least]:
-            now[at : at + len(data)] = data
-        wrong = {k for k in range(0, len(now), size) if now[k : k + size] != found[k : k + size]}
-        for n in range(least, len(self.pieces) + 1):
-            if not wrong:
-                return n
-            if n < len(self.pieces):
-                at, data = self.pieces[n]
-                now[at : at + len(data)] = data
-                for k in range(at // size * size, at + len(data), size):
-                    (wrong.discard if now[k : k + size] == found[k : k + size] else wrong.add)(k)
-        return None
-
-    def verdict(self, found, least):
-        """`whole`, where it holds the first writes up to one from `least` on; `lost`, where it holds fewer; or else `torn`."""
-        if (n := self.number(found, least)) is not None:
-            return "whole", n
-        n = self.number(found, 0)
-        return ("torn", 0) if n is None else ("lost", n)
 
 
 class Listener:
