@@ -187,12 +187,11 @@ def streams():
     yield "whole blocks are written and read", c().go().request(1, 1, 1024, data=b"A" * 2048).request(0, 2, 0, 4096).request(2, 3)
     yield "heads and tails keep the rest of their blocks", c().go().request(1, 1, 1024, data=b"A" * 3072).request(1, 2, 1500, data=b"B" * 1500).request(1, 3, 1025, data=b"C").request(0, 4, 1000, 3200).request(2, 5)
     yield "a write over more blocks than one handle has credits", c().go().request(1, 1, 512, data=b"A" * 9000).request(0, 2, 0, 16384).request(3, 3).request(2, 4)
-    yield "long reads are answered whole and in order, though the client has ended", c().go().request(1, 1, 512, data=b"A" * 5000).request(0, 2, 0, SIZE).request(0, 3, 0, SIZE).request(2, 4)
+    yield "a long read is answered whole, though the client has ended", c().go().request(1, 1, 512, data=b"A" * 5000).request(0, 2, 0, SIZE).request(2, 4)
     yield "a flush with nothing to flush", c().go().request(3, 7).request(2, 8)
     yield "a write with FUA", c().go().request(1, 0xFFFFFFFFFFFFFFFF, 2048, data=b"F" * 1024, flags=1).request(2, 8)
     yield "zeros over more blocks than one handle has credits, with FUA", c().go().request(1, 1, 0, data=b"A" * SIZE).request(6, 2, 700, SIZE - 1400, flags=3).request(2, 8)
     yield "a trim drops whole blocks", c().go().request(1, 1, 0, data=b"A" * 2048).request(4, 2, 500, 1548).request(0, 3, 0, 3072).request(2, 4)
-    yield "a trim of all blocks, of which one was written", c().go().request(1, 1, 3072, data=b"A" * 1024).request(4, 2, 0, SIZE).request(0, 3, 2048, 3072).request(3, 4).request(2, 5)
     yield "a trim with FUA", c().go().request(1, 1, 3072, data=b"A" * 1024).request(4, 2, 3072, 1024, flags=1).request(2, 3)
     yield "a write over a part of a block that was trimmed", c().go().request(1, 1, 3072, data=b"A" * 1024).request(4, 2, 3072, 1024).request(1, 3, 3500, data=b"B" * 10).request(0, 4, 3072, 1024).request(3, 5).request(2, 6)
     yield "bytes past the end", c().go().request(0, 1, SIZE - 5, 10).request(1, 2, SIZE - 5, data=b"0123456789").request(4, 3, SIZE, 1).request(6, 4, 1, SIZE).request(0, 5, 2**64 - 1, 2).request(1, 6, 2**64 - 1, data=b"xx").request(0, 7, SIZE - 5, 5).request(2, 8)
@@ -217,6 +216,9 @@ def waits():
     c = Connection
     yield "writes and reads, each after the answer to the one before", c().go().request(1, 1, 1024, data=b"A" * 2048).request(0, 2, 0, 4096).request(1, 3, 1500, data=b"B" * 1500).request(1, 4, 9, data=b"C").request(0, 5, 0, 4096).request(2, 6)
     yield "zeros, trims and requests without bytes", c().go().request(1, 1, 0, data=b"A" * 1024).request(1, 2, 2048, data=b"A" * 2048).request(6, 3, 700, 1400).request(4, 4, 1000, 2000).request(6, 5, 7).request(4, 6, 7).request(0, 7, 0, 5000).request(2, 8)
+    yield "long reads", c().go().request(1, 1, 512, data=b"A" * 5000).request(0, 2, 0, SIZE).request(0, 3, 0, SIZE).request(2, 4)
+    yield "a trim of all blocks, of which one was written", c().go().request(1, 1, 3072, data=b"A" * 1024).request(4, 2, 0, SIZE).request(0, 3, 2048, 3072).request(3, 4).request(2, 5)
+    yield "a long write, and a short one before it is answered", c().go().request(1, 1, 0, data=b"A" * SIZE).request(1, 2, 300, data=b"B" * 900, alone=False).request(0, 3, 0, SIZE).request(2, 4)
     yield "refusals", c().go().request(1, 1, SIZE - 5, data=b"0123456789").request(4, 2, SIZE, 1).request(0, 3, 0, MOST + 1).request(99, 4).request(1, 5, 0, data=b"A").request(2, 6)
     one = c().go()
     for k in range(20):
@@ -261,7 +263,7 @@ if __name__ == "__main__":
     folder = sys.argv[1]
     with open(folder + "/streams.rows", "w") as f:
         f.write("# What a client sends, what a server answers, and what it leaves: by the model in models/serve_rows.py. Blocks have 1024 bytes,\n"
-                "# and a handle 6 credits at most. Where an answer waits for a commit, or has 65536 bytes, no request follows\n# whose answer might overtake it.\nrows streams\n")
+                "# and a handle 6 credits at most. Where an answer waits for a commit, or a request is for\n# 65536 bytes, no request follows whose answer might overtake it.\nrows streams\n")
         for name, c in streams():
             wanted = c.wanted()
             if name.startswith("wrong on purpose"):

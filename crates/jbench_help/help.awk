@@ -1,4 +1,5 @@
-# Prints the help of the command `wanted`, or of the program for the name jbench, as the program prints it: from crates/jbench_help/src/usage.rt.
+# Prints the help of the command `wanted`, or of the program for the name jbench, as the program prints it: from words.rt and
+# usage.rt of crates/jbench_help/src, in this order.
 
 # The text between the quotes of this line, which is_open says that it does not end here. A quote within it stands after a backslash.
 function text() {
@@ -20,19 +21,27 @@ function option(left, right) {
     option_right[options] = right
 }
 
+# Adds a word of the command: an option, or a required value.
+function add(form, help) {
+    if (form ~ /^--/) option("    " form, help)
+    else { argument[++arguments] = form; argument_help[arguments] = help; usage = usage " " form }
+}
+
 is_open { sub(/^/, "\""); line = text(); if (name == wanted) after = after "\n" line; next }
-/^pub\(crate\) const .*: Usage = / { constant = "&" $3; sub(":", ",", constant) }
-/^    name: / { name = named[constant] = text(); next }
+/^pub\(crate\) const .*: Word = / { shared = $3; sub(":", "", shared) }
+/^pub\(crate\) const .*: Usage = / { shared = ""; constant = "&" $3; sub(":", ",", constant) }
+/^    name: / && !shared { name = named[constant] = text(); next }
 /^    about: / { about[name] = text(); next }
 /^    after_help: / { text(); next }
 /^        &[A-Z]*,$/ { command[++commands] = named[$1]; command_about[commands] = about[named[$1]] }
-name != wanted { next }
-/^ *name: / { word = text() }
+name != wanted && !shared { next }
+/^ *name: / { form = "--" text() }
 /^ *value: / { value = text(); shown = value == "" ? "" : "<" value ">" }
-/^ *is_option: true/ { is_option = 1 }
-/^ *is_option: false/ { is_option = 0 }
-/^ *help: / && is_option { option("    --" word (shown ? " " shown : ""), text()) }
-/^ *help: / && !is_option { argument[++arguments] = shown; argument_help[arguments] = text(); usage = usage " " shown }
+/^ *is_option: true/ && shown { form = form " " shown }
+/^ *is_option: false/ { form = shown }
+/^ *help: / && shared { forms[shared] = form; helps[shared] = text() }
+/^ *help: / && !shared { add(form, text()) }
+/^    words: &|^        [A-Z]+,$/ { gsub(/[^A-Z]+/, " "); for (i = 1; i <= NF; i++) if ($i in helps) add(forms[$i], helps[$i]) }
 
 END {
     if (wanted == "jbench") {

@@ -1,5 +1,5 @@
 -- Pieces of a byte range, written in order.
-use Rattle.std.proofs.Common.{◌≡◌, ◌≤◌, ◌+◌, ◌-◌, ◌++◌, ◌∙◌, ap, sym, refl, subst, arith, ℕ, List, [], ◌∷◌, OnErr, OnOk, Result, Ok, Err, length, take, drop, replicate, append_assoc, append-nil, length-take-le, take-add, take_all, take-append-drop}
+use Rattle.std.proofs.Common.{◌≡◌, ◌≤◌, ◌+◌, ◌-◌, ◌++◌, ◌∙◌, ap, sym, refl, subst, arith, ℕ, List, [], ◌∷◌, IfOk, None, OnErr, OnOk, Option, Result, Ok, Err, length, take, drop, replicate, append_assoc, append-nil, length-take-le, take-add, take_all, take-append-drop}
 use Rattle.std.proofs.lemmas.List.{length-replicate, replicate-append-replicate}
 use Rattle.block_device.specs.State.{DeviceState}
 use Rattle.handle.specs.Name.{JournalId}
@@ -83,28 +83,44 @@ some_zeros state honest name size offset done count n upto old new fits pieces m
     ∙ ap (λ (xs : List ℕ). xs ++ replicate rest 0) (sym (replicate-append-replicate done count 0)) in
     some state honest name size offset done upto (replicate n 0) (replicate done 0) (replicate count 0) (replicate rest 0) old new (length-replicate done 0) whole pieces may
 
+-- so many zeros are written when whoever asked has left
+pub zeros_so_far : {D : Type 0} (state : D → DeviceState) (honest : D → Type 0) (name : JournalId) (size offset done n : ℕ) (tickets : List TicketKnown) → done ≤ n →
+    WritesPieces state honest name size offset tickets (replicate done 0) → WritesSome state honest name size offset (replicate n 0) tickets
+zeros_so_far state honest name size offset done n tickets within pieces =
+    let rest : ℕ = n - done in
+    let all : n ≡ done + rest = omega (arith, within) in
+    WholePieces (replicate done 0) (replicate rest 0) pieces (ap (λ (k : ℕ). replicate k 0) all ∙ sym (replicate-append-replicate done rest 0))
+
 -- one handle wrote all of them
-pub one_piece : {D T E : Type 0} (state : D → DeviceState) (honest : D → Type 0) (name : JournalId) (size capacity offset upto : ℕ) (bytes : List ℕ) (old new : List TicketKnown)
-    (result : Result T E) → old ≡ [] → OnOk result (AddsTicket (WritesRange state honest name size offset bytes) upto old new) →
-    OnOk result (WritesAll state honest name size capacity offset bytes new)
-one_piece state honest name size capacity offset upto bytes old new (Ok done) none adds =
+pub by_one : {D : Type 0} (state : D → DeviceState) (honest : D → Type 0) (name : JournalId) (size capacity offset upto : ℕ) (bytes : List ℕ) (old new : List TicketKnown) →
+    old ≡ [] → AddsTicket (WritesRange state honest name size offset bytes) upto old new → WritesAll state honest name size capacity offset bytes new
+by_one state honest name size capacity offset upto bytes old new none adds =
     let same : offset ≡ offset + length {A = ℕ} [] = omega arith in
     let alone : new ≡ adds.ticket ∷ [] = adds.added ∙ ap (λ (ts : List TicketKnown). ts ++ adds.ticket ∷ []) none in
     record {
       pieces = Further [] adds.ticket new [] bytes bytes NoByte (subst (λ (j : ℕ). WritesRange state honest name size j bytes adds.ticket) same adds.its) alone refl;
       once = λ within. ap length alone;
     }
+
+pub one_piece : {D T E : Type 0} (state : D → DeviceState) (honest : D → Type 0) (name : JournalId) (size capacity offset upto : ℕ) (bytes : List ℕ) (old new : List TicketKnown)
+    (result : Result T E) → old ≡ [] → OnOk result (AddsTicket (WritesRange state honest name size offset bytes) upto old new) →
+    OnOk result (WritesAll state honest name size capacity offset bytes new)
+one_piece state honest name size capacity offset upto bytes old new (Ok done) none adds = by_one state honest name size capacity offset upto bytes old new none adds
 one_piece state honest name size capacity offset upto bytes old new (Err e) none adds = tt
 
 -- or some of them
+pub some_by_one : {D : Type 0} (state : D → DeviceState) (honest : D → Type 0) (name : JournalId) (size offset upto : ℕ) (bytes : List ℕ) (old new : List TicketKnown) →
+    old ≡ [] → MayAddTicket (BeginsRange state honest name size offset bytes) upto old new → WritesSome state honest name size offset bytes new
+some_by_one state honest name size offset upto bytes old new none may =
+    let same : offset ≡ offset + 0 = omega arith in
+    some state honest name size offset 0 upto bytes [] bytes [] old new refl (sym (append-nil bytes)) (no_byte state honest name size offset old none)
+    (subst (λ (j : ℕ). MayAddTicket (BeginsRange state honest name size j bytes) upto old new) same may)
+
 pub part_of_one : {D T E : Type 0} (state : D → DeviceState) (honest : D → Type 0) (name : JournalId) (size offset upto : ℕ) (bytes : List ℕ) (old new : List TicketKnown)
     (result : Result T E) → old ≡ [] → OnErr result (MayAddTicket (BeginsRange state honest name size offset bytes) upto old new) →
     OnErr result (WritesSome state honest name size offset bytes new)
 part_of_one state honest name size offset upto bytes old new (Ok done) none may = tt
-part_of_one state honest name size offset upto bytes old new (Err e) none may =
-    let same : offset ≡ offset + 0 = omega arith in
-    some state honest name size offset 0 upto bytes [] bytes [] old new refl (sym (append-nil bytes)) (no_byte state honest name size offset old none)
-    (subst (λ (j : ℕ). MayAddTicket (BeginsRange state honest name size j bytes) upto old new) same may)
+part_of_one state honest name size offset upto bytes old new (Err e) none may = some_by_one state honest name size offset upto bytes old new none may
 
 -- they need more blocks than one handle has credits for
 pub not_within : {D T E : Type 0} (state : D → DeviceState) (honest : D → Type 0) (name : JournalId) (size capacity offset : ℕ) (bytes : List ℕ) (tickets : List TicketKnown)
@@ -113,9 +129,12 @@ pub not_within : {D T E : Type 0} (state : D → DeviceState) (honest : D → Ty
 not_within state honest name size capacity offset bytes tickets (Ok done) not pieces = record { pieces = pieces; once = λ within. absurd (not within) }
 not_within state honest name size capacity offset bytes tickets (Err e) not pieces = tt
 
-pub zeros_not_within : {D T E : Type 0} (state : D → DeviceState) (honest : D → Type 0) (name : JournalId) (size capacity offset count : ℕ) (tickets : List TicketKnown)
-    (result : Result T E) → (LieWithin size offset count capacity → ⊥) → OnOk result (WritesPieces state honest name size offset tickets (replicate count 0)) →
-    OnOk result (WritesAll state honest name size capacity offset (replicate count 0) tickets)
-zeros_not_within state honest name size capacity offset count tickets result not pieces =
-    not_within state honest name size capacity offset (replicate count 0) tickets result
-    (subst (λ (n : ℕ). LieWithin size offset n capacity → ⊥) (sym (length-replicate count 0)) not) pieces
+pub zeros_not_within : {D X E : Type 0} (state : D → DeviceState) (honest : D → Type 0) (name : JournalId) (size capacity offset count : ℕ) (tickets : List TicketKnown)
+    (result : Result (Option X) E) → (LieWithin size offset count capacity → ⊥) →
+    IfOk result (λ early. early ≡ None → WritesPieces state honest name size offset tickets (replicate count 0)) →
+    IfOk result (λ early. early ≡ None → WritesAll state honest name size capacity offset (replicate count 0) tickets)
+zeros_not_within state honest name size capacity offset count tickets (Ok early) not pieces = λ whole. record {
+  pieces = pieces whole;
+  once = λ within. absurd (not (subst (λ (n : ℕ). LieWithin size offset n capacity) (length-replicate count 0) within));
+}
+zeros_not_within state honest name size capacity offset count tickets (Err e) not pieces = tt

@@ -4,13 +4,13 @@ use Rattle.journal_model.specs.declared.refusal.JournalError.{JournalError}
 use Rattle.journal_model.specs.declared.refusal.JournalError.TheVariants.{BadBlock, Memory, Revoked}
 use Rattle.block_device.specs.State.{DeviceState}
 use Rattle.handle.specs.Name.{JournalId}
-use Rattle.journal_steps.specs.Journal.{NewestRefused, ReadsNewest}
+use Rattle.journal_steps.specs.Journal.{NewestRefused, NewestDid}
 use Rattle.journal_steps.specs.Values.{JournalValue}
 use Rattle.shared_journal.specs.Moments.{AtItsMoment, AtOneMoment}
 
 -- at a moment of the named journal, a read of the block's newest bytes gave these; or the block has an unfinished revoke, and they are zeros
 pub data ReadsBlock {D : Type 0} (state : D → DeviceState) (honest : D → Type 0) (name : JournalId) (b : ℕ) (v : List ℕ) : Type 0 where
-  Newest : AtItsMoment state honest name (λ (old new : JournalValue D). ReadsNewest state honest old b v new) → ReadsBlock state honest name b v
+  Newest : AtItsMoment state honest name (λ (old new : JournalValue D). NewestDid state honest old b v new) → ReadsBlock state honest name b v
   Zeros : AtItsMoment state honest name (λ (old new : JournalValue D). NewestRefused state old b new Revoked) → v ≡ replicate (length v) 0 → ReadsBlock state honest name b v
 
 -- n bytes of a block, from this place in it on

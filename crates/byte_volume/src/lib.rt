@@ -2,9 +2,10 @@
 //!
 //! `reading` and `writing` take ranges that begin and end anywhere; a write keeps the rest of a block as a read finds it. `trimming`
 //! revokes whole blocks. `numbers` starts their handles, `tickets` has what these leave, `stopped` the numbers that tell a caller when its
-//! changes are committed.
+//! changes are committed. `leaving` ends a change of many handles that nobody waits for any more.
 #![tactic(auto)]
 
+mod leaving;
 mod numbers;
 mod reading;
 mod stopped;
@@ -12,6 +13,7 @@ mod tickets;
 mod trimming;
 mod writing;
 
+pub use leaving::Leaving;
 pub use numbers::{LAST_TAKEN, numbers_left};
 pub use reading::read_range;
 pub use stopped::{Committed, Stopped};

@@ -1,9 +1,10 @@
 //! Trims the whole blocks of a byte range.
-ghost use Rattle.std.specs.Prelude.{◌≡◌, ◌≤◌, ◌<◌, ◌+◌, ◌^◌, ◌++◌, [], IfErr, IfOk, OnErr, OnOk};
+ghost use Rattle.std.specs.Prelude.{◌≡◌, ◌≤◌, ◌<◌, ◌+◌, ◌^◌, ◌++◌, [], None, IfErr, IfOk, IfSome, OnErr, OnOk};
 ghost use Rattle.byte_volume.specs.Numbers.{last_taken};
 ghost use Rattle.byte_volume.specs.Refusals.{AskRefused, BlocksRefused, IsAmong, RevokeRefused, StepRefused, TrimRefused};
 ghost use Rattle.byte_volume.specs.Writing.{AddsFirst, AddsTicket, AreNoted, KeptNone, MayAddTicket, RevokesFirst, TrimsBlocks, TrimsSome, first_whole, revoke_steps, whole_blocks};
 
+use crate::leaving::Leaving;
 use crate::numbers::start;
 use crate::stopped::Stopped;
 use crate::tickets::Tickets;
@@ -15,20 +16,23 @@ use volume_service::{Gate, Session};
 
 /// Trims exactly the blocks that lie whole in a byte range, and writes nothing. Those that keep a copy (`Session::keeps_copy`) are revoked,
 /// the others left out. A revoked block reads as zeros until its revoke is finished, then as home has it. `tickets` has those of its handles
-/// afterwards, and no others.
+/// afterwards, and no others. It ends early once whoever asked for it has left, and returns what shows that; the first blocks are then
+/// trimmed.
 ///
 /// # Errors
 ///
 /// Those of `revoke_blocks`, except `TooMany`. Handles that revoked the first blocks have stopped, and are noted; `tickets` has theirs.
-pub fn trim_range<J: JournalName, D: Device, R: Record, G: Gate, W: Wait>(
+pub fn trim_range<J: JournalName, D: Device, R: Record, G: Gate, X: Copy, W: Wait>(
     rt: &W,
     session: &mut Session<'_, J, D, R, G>,
     offset: u64,
     count: u64,
     stopped: &mut Stopped,
     tickets: &mut Tickets<J, R>,
-) -> Result<(), JournalError>
-    ensures blocks { OnOk result (TrimsBlocks D.state D.honest J.name (first_whole J.name.shape.block_size offset) tickets.new (whole_blocks J.name.shape.block_size offset count)) }
+    leaving: &Leaving<X>,
+) -> Result<Option<X>, JournalError>
+    ensures blocks { IfOk result (λ early. early ≡ None → TrimsBlocks D.state D.honest J.name (first_whole J.name.shape.block_size offset) tickets.new (whole_blocks J.name.shape.block_size offset count)) }
+    ensures early { IfOk result (λ early. IfSome early (λ _. TrimsSome D.state D.honest J.name (first_whole J.name.shape.block_size offset) (whole_blocks J.name.shape.block_size offset count) tickets.new)) }
     ensures left { OnErr result (TrimsSome D.state D.honest J.name (first_whole J.name.shape.block_size offset) (whole_blocks J.name.shape.block_size offset count) tickets.new) }
     ensures noted { AreNoted stopped.new tickets.new }
     ensures kept { stopped.old ≤ stopped.new }
@@ -42,21 +46,24 @@ pub fn trim_range<J: JournalName, D: Device, R: Record, G: Gate, W: Wait>(
     let size = session.block_size() as u64;
     let first = offset.div_ceil(size);
     let blocks = (end / size).saturating_sub(first);
-    trim_blocks(rt, session, first, blocks, stopped, &mut tickets.list)
+    let list = &mut tickets.list;
+    trim_blocks(rt, session, first, blocks, stopped, list, leaving)
 }
 
 /// Trims this many blocks from block `first` on, in order. Blocks in a row that keep a copy are revoked through one or more handles.
-fn trim_blocks<J: JournalName, D: Device, R: Record, G: Gate, W: Wait>(
+fn trim_blocks<J: JournalName, D: Device, R: Record, G: Gate, X: Copy, W: Wait>(
     rt: &W,
     session: &mut Session<'_, J, D, R, G>,
     first: u64,
     blocks: u64,
     stopped: &mut Stopped,
     tickets: &mut Vec<SharedTicket<J, R>>,
-) -> Result<(), JournalError>
+    leaving: &Leaving<X>,
+) -> Result<Option<X>, JournalError>
     requires fits { first + blocks < 2 ^ 64 }
     requires empty { tickets.old.items ≡ [] }
-    ensures blocks { OnOk result (TrimsBlocks D.state D.honest J.name first tickets.new.items blocks) }
+    ensures blocks { IfOk result (λ early. early ≡ None → TrimsBlocks D.state D.honest J.name first tickets.new.items blocks) }
+    ensures early { IfOk result (λ early. IfSome early (λ _. TrimsSome D.state D.honest J.name first blocks tickets.new.items)) }
     ensures left { OnErr result (TrimsSome D.state D.honest J.name first blocks tickets.new.items) }
     ensures noted { AreNoted stopped.new tickets.new.items }
     ensures kept { stopped.old ≤ stopped.new }
@@ -65,6 +72,9 @@ fn trim_blocks<J: JournalName, D: Device, R: Record, G: Gate, W: Wait>(
 {
     let mut done = 0;
     while done < blocks {
+        if let Some(by) = leaving.shown(rt) {
+            return Ok(Some(by));
+        }
         let most = session.capacity().min(blocks - done);
         let kept = count_kept(rt, session, first + done, most)?;
         if kept == 0 {
@@ -74,7 +84,7 @@ fn trim_blocks<J: JournalName, D: Device, R: Record, G: Gate, W: Wait>(
         revoke_once(rt, session, first + done, kept, stopped, tickets)?;
         done += kept;
     }
-    Ok(())
+    Ok(None)
 }
 
 /// How many blocks in a row from block `first` on keep a copy, at most `most`.

@@ -1,9 +1,10 @@
 //! Cuts a write of a byte range into handles, and keeps the rest of its first and last block.
-ghost use Rattle.std.specs.Prelude.{◌≡◌, ◌≤◌, ◌<◌, ◌+◌, ◌-◌, ◌*◌, ◌/◌, ◌%◌, ◌^◌, ◌++◌, true, false, [], length, min, replicate, IfErr, IfOk, OnErr, OnOk};
+ghost use Rattle.std.specs.Prelude.{◌≡◌, ◌≤◌, ◌<◌, ◌+◌, ◌-◌, ◌*◌, ◌/◌, ◌%◌, ◌^◌, ◌++◌, true, false, [], length, min, replicate, None, IfErr, IfOk, IfSome, OnErr, OnOk};
 ghost use Rattle.byte_volume.specs.Numbers.{last_taken};
 ghost use Rattle.byte_volume.specs.Refusals.{CutRefused, HandleRefused, IsAmong, StepRefused, WriteRefused};
 ghost use Rattle.byte_volume.specs.Writing.{AddsFirst, AddsHead, AddsTail, AddsTicket, AreNoted, BeginsRange, IsOverlay, LieWithin, MayAddTicket, WritesAll, WritesFirst, WritesPieces, WritesRange, WritesSome, write_steps};
 
+use crate::leaving::Leaving;
 use crate::numbers::start;
 use crate::reading::read_part;
 use crate::stopped::Stopped;
@@ -273,12 +274,13 @@ fn piece_length(size: usize, capacity: u64, at: u64) -> usize
         .max(1)
 }
 
-/// Writes zeros, as `write_range` writes bytes. It takes memory for the zeros of one handle.
+/// Writes zeros, as `write_range` writes bytes. It takes memory for the zeros of one handle. If it takes more than one handle, it ends early
+/// once whoever asked for it has left, and returns what shows that; a part of them is then written, as after an error.
 ///
 /// # Errors
 ///
 /// Those of `write_range`.
-pub fn write_zeros<J: JournalName, D: Device, R: Record, G: Gate, W: Wait>(
+pub fn write_zeros<J: JournalName, D: Device, R: Record, G: Gate, X: Copy, W: Wait>(
     rt: &W,
     alloc: Global,
     session: &mut Session<'_, J, D, R, G>,
@@ -286,8 +288,10 @@ pub fn write_zeros<J: JournalName, D: Device, R: Record, G: Gate, W: Wait>(
     count: usize,
     stopped: &mut Stopped,
     tickets: &mut Tickets<J, R>,
-) -> Result<(), JournalError>
-    ensures once { OnOk result (WritesAll D.state D.honest J.name J.name.shape.block_size J.name.capacity offset (replicate count 0) tickets.new) }
+    leaving: &Leaving<X>,
+) -> Result<Option<X>, JournalError>
+    ensures once { IfOk result (λ early. early ≡ None → WritesAll D.state D.honest J.name J.name.shape.block_size J.name.capacity offset (replicate count 0) tickets.new) }
+    ensures early { IfOk result (λ early. IfSome early (λ _. WritesSome D.state D.honest J.name J.name.shape.block_size offset (replicate count 0) tickets.new)) }
     ensures left { OnErr result (WritesSome D.state D.honest J.name J.name.shape.block_size offset (replicate count 0) tickets.new) }
     ensures noted { AreNoted stopped.new tickets.new }
     ensures kept { stopped.old ≤ stopped.new }
@@ -300,10 +304,11 @@ pub fn write_zeros<J: JournalName, D: Device, R: Record, G: Gate, W: Wait>(
     }
     if lie_within(session.block_size(), offset, count, session.capacity()) {
         let list = &mut tickets.list;
-        return zero_once(rt, alloc, session, offset, count, stopped, list);
+        zero_once(rt, alloc, session, offset, count, stopped, list)?;
+        return Ok(None);
     }
     let list = &mut tickets.list;
-    zero_pieces(rt, alloc, session, offset, count, stopped, list)
+    zero_pieces(rt, alloc, session, offset, count, stopped, list, leaving)
 }
 
 /// Writes zeros through one handle.
@@ -329,7 +334,7 @@ fn zero_once<J: JournalName, D: Device, R: Record, G: Gate, W: Wait>(
 }
 
 /// Writes zeros through one or more handles, in order.
-fn zero_pieces<J: JournalName, D: Device, R: Record, G: Gate, W: Wait>(
+fn zero_pieces<J: JournalName, D: Device, R: Record, G: Gate, X: Copy, W: Wait>(
     rt: &W,
     alloc: Global,
     session: &mut Session<'_, J, D, R, G>,
@@ -337,10 +342,12 @@ fn zero_pieces<J: JournalName, D: Device, R: Record, G: Gate, W: Wait>(
     count: usize,
     stopped: &mut Stopped,
     tickets: &mut Vec<SharedTicket<J, R>>,
-) -> Result<(), JournalError>
+    leaving: &Leaving<X>,
+) -> Result<Option<X>, JournalError>
     requires fits { offset + count < 2 ^ 64 }
     requires empty { tickets.old.items ≡ [] }
-    ensures pieces { OnOk result (WritesPieces D.state D.honest J.name J.name.shape.block_size offset tickets.new.items (replicate count 0)) }
+    ensures pieces { IfOk result (λ early. early ≡ None → WritesPieces D.state D.honest J.name J.name.shape.block_size offset tickets.new.items (replicate count 0)) }
+    ensures early { IfOk result (λ early. IfSome early (λ _. WritesSome D.state D.honest J.name J.name.shape.block_size offset (replicate count 0) tickets.new.items)) }
     ensures left { OnErr result (WritesSome D.state D.honest J.name J.name.shape.block_size offset (replicate count 0) tickets.new.items) }
     ensures noted { AreNoted stopped.new tickets.new.items }
     ensures kept { stopped.old ≤ stopped.new }
@@ -349,11 +356,14 @@ fn zero_pieces<J: JournalName, D: Device, R: Record, G: Gate, W: Wait>(
 {
     let mut done = 0;
     while done < count {
+        if let Some(by) = leaving.shown(rt) {
+            return Ok(Some(by));
+        }
         let at = offset + done as u64;
         let most = piece_length(session.block_size(), session.capacity(), at);
         let some = most.min(count - done);
         zero_once(rt, alloc, session, at, some, stopped, tickets)?;
         done += some;
     }
-    Ok(())
+    Ok(None)
 }

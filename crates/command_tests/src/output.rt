@@ -1,5 +1,5 @@
 //! A command's output as one text, for tests to compare.
-use jbench_words::fault::Status;
+use jbench_words::fault::CommandStatus;
 use std::alloc::Global;
 use std::str::from_utf8;
 use std::test::Fail;
@@ -13,17 +13,17 @@ pub(crate) fn text_of(
     alloc: Global,
     out: &[u8],
     err: &[u8],
-    status: Status,
+    status: CommandStatus,
 ) -> Result<String, Fail> {
     let out = from_utf8(out)?;
     let err = from_utf8(err)?;
     Ok(format!(in alloc; "{out}| {err}{}", name_of(status))?)
 }
 
-fn name_of(status: Status) -> &'static str {
+fn name_of(status: CommandStatus) -> &'static str {
     match status {
-        Status::Fine => "Fine",
-        Status::Refused => "Refused",
-        Status::VerdictFalse => "VerdictFalse",
+        CommandStatus::Fine => "Fine",
+        CommandStatus::Refused => "Refused",
+        CommandStatus::VerdictFalse => "VerdictFalse",
     }
 }

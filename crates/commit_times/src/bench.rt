@@ -3,8 +3,8 @@ ghost use Rattle.std.specs.Prelude.{◌≡◌, ◌≤◌, IfOk, IfSome};
 ghost use Rattle.commit_times.specs.Closed.{IsLeftClosed};
 
 use crate::counted::{Calls, Counted};
-use crate::tally::{Ranked, Tally};
-use crate::work::{Plan, Work};
+use crate::tally::{Ranked, TimesTally};
+use crate::work::{BenchPlan, Work};
 use block_device::Device;
 use group_commit::Receipt;
 use jbench_words::fault::{self, Fault};
@@ -31,16 +31,16 @@ pub(crate) const SEED: u64 = 1;
 
 /// What was done, and how long it took.
 #[derive(Drop)]
-pub(crate) struct Done {
-    pub(crate) tally: Tally,
+pub(crate) struct Times {
+    pub(crate) tally: TimesTally,
     /// From the opened log to the last commit.
     pub(crate) taken: Duration,
 }
 
-impl Done {
-    pub(crate) fn new(alloc: Global) -> Done {
-        Done {
-            tally: Tally::new(alloc),
+impl Times {
+    pub(crate) fn new(alloc: Global) -> Times {
+        Times {
+            tally: TimesTally::new(alloc),
             taken: Duration::ZERO,
         }
     }
@@ -50,7 +50,7 @@ impl Done {
     /// # Errors
     ///
     /// `Memory`.
-    pub(crate) fn and(self, other: Done) -> Result<Done, JournalError> {
+    pub(crate) fn and(self, other: Times) -> Result<Times, JournalError> {
         let mut done = self;
         done.tally.add_all(&other.tally)?;
         done.taken = done.taken.max(other.taken);
@@ -122,7 +122,7 @@ fn do_and_say<D: Device + Drop, C: Clock, H: Watch, W: Write>(
 ) -> Result<D, Fault>
     ensures { IfOk result (λ device. D.honest device → IsLeftClosed (D.state device)) }
 {
-    let mut plan = Plan::new(words.copies, device.blocks(Area::Home), SEED)?;
+    let mut plan = BenchPlan::new(words.copies, device.blocks(Area::Home), SEED)?;
     let work = open(alloc, Counted::new(device))?;
     let (done, device) = do_all(alloc, words, work, &mut plan, clock, watch)?;
     let commits = done.tally.commits();
@@ -148,7 +148,7 @@ fn now<C: Clock>(clock: &C) -> Result<Instant, Fault> {
 #[derive(Drop)]
 struct Run<D: Device> {
     work: Work<D>,
-    tally: Tally,
+    tally: TimesTally,
     /// When the run began.
     begun: Instant,
     /// From there to the last commit.
@@ -157,7 +157,7 @@ struct Run<D: Device> {
 
 impl<D: Device + Drop> Run<D> {
     /// Commits the next transaction, and times it. Returns its receipt.
-    fn commit<C: Clock>(&mut self, plan: &mut Plan, clock: &C) -> Result<Receipt, Fault>
+    fn commit<C: Clock>(&mut self, plan: &mut BenchPlan, clock: &C) -> Result<Receipt, Fault>
         ensures { IfOk result (λ receipt. receipt.tid ≤ self.new.work.journal.journal.front.mark) }
     {
         let ticket = self.work.change(plan)?;
@@ -181,10 +181,10 @@ fn do_all<D: Device + Drop, C: Clock, H: Watch>(
     alloc: Global,
     words: &BenchWords<'_>,
     work: Work<D>,
-    plan: &mut Plan,
+    plan: &mut BenchPlan,
     clock: &C,
     watch: &mut H,
-) -> Result<(Done, D), Fault>
+) -> Result<(Times, D), Fault>
     ensures { IfOk result (λ ended. D.honest ended.1 → IsLeftClosed (D.state ended.1)) }
 {
     let mut run = begin(alloc, work, clock)?;
@@ -200,7 +200,7 @@ fn begin<D: Device + Drop, C: Clock>(
     match now(clock) {
         Ok(begun) => Ok(Run {
             work,
-            tally: Tally::new(alloc),
+            tally: TimesTally::new(alloc),
             begun,
             taken: Duration::ZERO,
         }),
@@ -211,7 +211,7 @@ fn begin<D: Device + Drop, C: Clock>(
 fn do_transactions<D: Device + Drop, C: Clock, H: Watch>(
     run: &mut Run<D>,
     words: &BenchWords<'_>,
-    plan: &mut Plan,
+    plan: &mut BenchPlan,
     clock: &C,
     watch: &mut H,
 ) -> Result<(), Fault> {
@@ -226,7 +226,7 @@ fn do_transactions<D: Device + Drop, C: Clock, H: Watch>(
 
 fn one_more<D: Device + Drop, C: Clock, H: Watch>(
     run: &mut Run<D>,
-    plan: &mut Plan,
+    plan: &mut BenchPlan,
     clock: &C,
     watch: &mut H,
 ) -> Result<(), Fault> {
@@ -242,7 +242,7 @@ fn one_more<D: Device + Drop, C: Clock, H: Watch>(
     Ok(())
 }
 
-fn end<D: Device + Drop>(run: Run<D>) -> Result<(Done, D), Fault>
+fn end<D: Device + Drop>(run: Run<D>) -> Result<(Times, D), Fault>
     ensures { IfOk result (λ ended. D.honest ended.1 → IsLeftClosed (D.state ended.1)) }
 {
     let Run {
@@ -252,7 +252,7 @@ fn end<D: Device + Drop>(run: Run<D>) -> Result<(Done, D), Fault>
         taken,
     } = run;
     let device = work.close()?;
-    Ok((Done { tally, taken }, device))
+    Ok((Times { tally, taken }, device))
 }
 
 fn is_over(taken: Duration, most: Option<Duration>) -> bool {
@@ -266,7 +266,7 @@ fn a_second(count: u64, taken: Duration) -> u128 {
 /// Prints the results as the words say.
 pub(crate) fn say<D, W: Write>(
     words: &BenchWords<'_>,
-    done: Done,
+    done: Times,
     commits: u64,
     device: &Counted<D>,
     out: &mut W,
@@ -280,7 +280,7 @@ pub(crate) fn say<D, W: Write>(
 
 fn say_values<D, W: Write>(
     words: &BenchWords<'_>,
-    done: Done,
+    done: Times,
     commits: u64,
     device: &Counted<D>,
     out: &mut W,
@@ -318,7 +318,7 @@ fn say_shares<W: Write>(ranked: &Ranked, out: &mut W) -> io::Result<()> {
 
 fn say_lines<D, W: Write>(
     words: &BenchWords<'_>,
-    done: Done,
+    done: Times,
     device: &Counted<D>,
     out: &mut W,
 ) -> Result<(), Fault> {

@@ -1,8 +1,8 @@
 //! A client: it makes one durable change after another through its session.
 ghost use Rattle.std.specs.Prelude.{◌≤◌, IfOk};
 
-use crate::bench::Done;
-use crate::work::Plan;
+use crate::bench::Times;
+use crate::work::BenchPlan;
 use block_device::Device;
 use jbench_words::fault::Fault;
 use jbench_words::numbers::LAST_TAKEN;
@@ -18,7 +18,7 @@ use volume_service::{Client, Gate, Session};
 
 /// What all clients share.
 #[derive(Drop)]
-pub(crate) struct Shared<'s, C, H> {
+pub(crate) struct SharedState<'s, C, H> {
     /// The clock that all clients read.
     clock: &'s C,
     /// When the work began.
@@ -37,17 +37,17 @@ pub(crate) struct Shared<'s, C, H> {
     /// 1 once a client has ended, or could not be started: the others end too.
     ended: AtomicU64,
     /// Who learns the progress.
-    told: Mutex<Told<H>>,
+    told: Mutex<ToldProgress<H>>,
 }
 
 /// Who learns the progress, and how many seconds it knows of.
 #[derive(Drop)]
-struct Told<H> {
+struct ToldProgress<H> {
     watch: H,
     seconds: u64,
 }
 
-impl<'s, C, H> Shared<'s, C, H> {
+impl<'s, C, H> SharedState<'s, C, H> {
     /// The shared part of so many clients that begin now.
     pub(crate) fn new(
         clock: &'s C,
@@ -56,7 +56,7 @@ impl<'s, C, H> Shared<'s, C, H> {
         begun: Instant,
         watch: H,
     ) -> Self {
-        Shared {
+        SharedState {
             clock,
             begun,
             most: words.most_transactions(),
@@ -65,12 +65,12 @@ impl<'s, C, H> Shared<'s, C, H> {
             started: AtomicU64::new(0),
             durable: AtomicU64::new(0),
             ended: AtomicU64::new(0),
-            told: Mutex::new(Told { watch, seconds: 0 }),
+            told: Mutex::new(ToldProgress { watch, seconds: 0 }),
         }
     }
 }
 
-impl<C, H: Watch> Shared<'_, C, H> {
+impl<C, H: Watch> SharedState<'_, C, H> {
     /// Tells that a second is over, unless another client has, or does it now: none waits for a slow terminal.
     fn tell(&self, second: u64) {
         if let Some(mut told) = self.told.try_lock() {
@@ -79,7 +79,7 @@ impl<C, H: Watch> Shared<'_, C, H> {
     }
 }
 
-impl<H: Watch> Told<H> {
+impl<H: Watch> ToldProgress<H> {
     /// Tells that a second is over, unless it is known.
     fn tell(&mut self, second: u64, transactions: u64) {
         if self.seconds < second {
@@ -93,13 +93,13 @@ impl<H: Watch> Told<H> {
 }
 
 /// Ends all clients when it is dropped.
-struct Ending<'s> {
+struct EndGuard<'s> {
     ended: &'s AtomicU64,
 }
 
-impl Drop for Ending<'_> {
+impl Drop for EndGuard<'_> {
     fn drop(self) {
-        let Ending { ended } = self;
+        let EndGuard { ended } = self;
         ended.store(1, Ordering::SeqCst);
     }
 }
@@ -108,22 +108,22 @@ impl Drop for Ending<'_> {
 #[derive(Drop)]
 pub(crate) struct Changer<'s, C, H> {
     /// What all clients share.
-    shared: &'s Shared<'s, C, H>,
+    shared: &'s SharedState<'s, C, H>,
     /// Dropped with the client: when it ends for whatever cause, or if it can't be started.
-    ending: Ending<'s>,
+    ending: EndGuard<'s>,
     /// The blocks that each of its changes writes.
-    plan: Plan,
+    plan: BenchPlan,
     /// The bytes of the block that it wrote last.
     bytes: Vec<u8>,
     /// The last transaction that it joined; before that, that anybody did.
     joined: Tid,
     /// What it has done.
-    done: Done,
+    done: Times,
 }
 
 impl<'s, J: JournalName, D: Device, R: Record, G: Gate, C: Clock, H: Watch> Client<J, D, R, G>
     for Changer<'s, C, H> {
-    type Answer = Result<Done, Fault>;
+    type Answer = Result<Times, Fault>;
 
     /// Makes durable changes until there are enough, the time is over, or another client has ended.
     ///
@@ -131,7 +131,7 @@ impl<'s, J: JournalName, D: Device, R: Record, G: Gate, C: Clock, H: Watch> Clie
     ///
     /// The clock can't be read; memory ran out; `SequenceEnd`; those of a start, a write and a wait of the session. No handle is left open,
     /// and the other clients end too.
-    fn run<W: Wait>(self, rt: &W, session: &mut Session<'_, J, D, R, G>) -> Result<Done, Fault>
+    fn run<W: Wait>(self, rt: &W, session: &mut Session<'_, J, D, R, G>) -> Result<Times, Fault>
         ensures { Unit {0} }
     {
         let mut client = self;
@@ -148,20 +148,20 @@ impl<'s, J: JournalName, D: Device, R: Record, G: Gate, C: Clock, H: Watch> Clie
 
 impl<'s, C: Clock, H: Watch> Changer<'s, C, H> {
     /// A client with this plan.
-    pub(crate) fn new(alloc: Global, shared: &'s Shared<'s, C, H>, plan: Plan) -> Self {
+    pub(crate) fn new(alloc: Global, shared: &'s SharedState<'s, C, H>, plan: BenchPlan) -> Self {
         Changer {
             shared,
-            ending: Ending {
+            ending: EndGuard {
                 ended: &shared.ended,
             },
             plan,
             bytes: Vec::new(alloc),
             joined: Tid(0),
-            done: Done::new(alloc),
+            done: Times::new(alloc),
         }
     }
 
-    fn into_done(self) -> Done {
+    fn into_done(self) -> Times {
         let Changer {
             shared: _,
             ending: _,

@@ -7,13 +7,13 @@ use std::time::Duration;
 
 /// The time of each commit, in nanoseconds.
 #[derive(Drop)]
-pub(crate) struct Tally {
+pub(crate) struct TimesTally {
     nanoseconds: Vec<u64>,
 }
 
-impl Tally {
+impl TimesTally {
     pub(crate) fn new(alloc: Global) -> Self {
-        Tally {
+        TimesTally {
             nanoseconds: Vec::new(alloc),
         }
     }
@@ -33,7 +33,7 @@ impl Tally {
     /// # Errors
     ///
     /// Memory ran out.
-    pub(crate) fn add_all(&mut self, others: &Tally) -> Result<(), JournalError> {
+    pub(crate) fn add_all(&mut self, others: &TimesTally) -> Result<(), JournalError> {
         self.nanoseconds.extend_from_slice(&others.nanoseconds)?;
         Ok(())
     }

@@ -4,10 +4,10 @@ ghost use Rattle.journal_model.specs.declared.refusal.JournalError.TheVariants.{
 ghost use Rattle.jbench_words.specs.declared.fault.Fault.TheVariants.{Refused};
 ghost use Rattle.commit_times.specs.Closed.{IsLeftClosed};
 
-use crate::bench::{Done, SEED, refuse, say};
-use crate::client::{Changer, Shared, now};
+use crate::bench::{SEED, Times, refuse, say};
+use crate::client::{Changer, SharedState, now};
 use crate::counted::Counted;
-use crate::work::{Plan, close};
+use crate::work::{BenchPlan, close};
 use block_device::Device;
 use jbench_words::fault::Fault;
 use jbench_words::watch::Watch;
@@ -21,7 +21,7 @@ use std::marker::Brand;
 use std::sync::Wait;
 use std::thread::Threads;
 use std::time::Clock;
-use volume_service::{OpenGate, ServedClients, serve_clients};
+use volume_service::{NoInterval, OpenGate, ServedClients, serve_clients};
 
 /// Opens the log of a device, lets this many clients commit changes as the words say, each through one handle of the given number of copies
 /// at a time, and closes the journal. Prints what `bench::bench` prints, and how many handles a commit had. Each client has a thread and a
@@ -103,10 +103,15 @@ fn do_and_say<
     Ok(device.into_device())
 }
 
-fn plans(alloc: Global, copies: u64, home_blocks: u64, clients: u64) -> Result<Vec<Plan>, Fault> {
+fn plans(
+    alloc: Global,
+    copies: u64,
+    home_blocks: u64,
+    clients: u64,
+) -> Result<Vec<BenchPlan>, Fault> {
     let mut plans = Vec::new(alloc);
     for number in 0..clients {
-        plans.push(Plan::new(copies, home_blocks, SEED.saturating_add(number))?)?;
+        plans.push(BenchPlan::new(copies, home_blocks, SEED.saturating_add(number))?)?;
     }
     Ok(plans)
 }
@@ -123,10 +128,10 @@ fn do_all<
     clock: &C,
     alloc: Global,
     words: &BenchWords<'_>,
-    plans: Vec<Plan>,
+    plans: Vec<BenchPlan>,
     unnamed: UnnamedJournal<D>,
     watch: H,
-) -> Result<(Done, u64, D), Fault>
+) -> Result<(Times, u64, D), Fault>
     requires name { unnamed.name ≡ J.name }
     ensures { IfOk result (λ ended. D.honest ended.2 → IsLeftClosed (D.state ended.2)) }
 {
@@ -151,15 +156,15 @@ fn work<
     words: &BenchWords<'_>,
     journal: &Journal<J, D>,
     seat: Seat<J>,
-    plans: Vec<Plan>,
+    plans: Vec<BenchPlan>,
     watch: H,
-) -> Result<(Done, u64), Fault> {
+) -> Result<(Times, u64), Fault> {
     let mut seat = seat;
     let before = journal.seen(&mut seat);
     let count = u32::try_from(plans.len()).unwrap_or(u32::MAX);
-    let shared = Shared::new(clock, words, count, now(clock)?, watch);
+    let shared = SharedState::new(clock, words, count, now(clock)?, watch);
     let clients = clients(alloc, &shared, plans)?;
-    let served = serve_clients(rt, alloc, journal, seat, clients, &OpenGate)?;
+    let served = serve_clients(rt, alloc, journal, seat, clients, &OpenGate, &NoInterval)?;
     let ServedClients {
         answers,
         tally: _,
@@ -174,8 +179,8 @@ fn work<
 /// A client for each plan.
 fn clients<'s, C: Clock, H: Watch>(
     alloc: Global,
-    shared: &'s Shared<'s, C, H>,
-    plans: Vec<Plan>,
+    shared: &'s SharedState<'s, C, H>,
+    plans: Vec<BenchPlan>,
 ) -> Result<Vec<Changer<'s, C, H>>, JournalError> {
     let mut clients = Vec::new(alloc);
     for plan in plans {
@@ -187,8 +192,8 @@ fn clients<'s, C: Clock, H: Watch>(
 }
 
 /// What all clients have done, or why one of them could not go on.
-fn all_of(alloc: Global, answers: Vec<Result<Done, Fault>>) -> Result<Done, Fault> {
-    let mut done = Ok(Done::new(alloc));
+fn all_of(alloc: Global, answers: Vec<Result<Times, Fault>>) -> Result<Times, Fault> {
+    let mut done = Ok(Times::new(alloc));
     for answer in answers {
         done = both(done, answer);
     }
@@ -196,7 +201,7 @@ fn all_of(alloc: Global, answers: Vec<Result<Done, Fault>>) -> Result<Done, Faul
 }
 
 /// What two clients have done, or why one of them could not go on; another cause is preferred to `Aborted`.
-fn both(one: Result<Done, Fault>, other: Result<Done, Fault>) -> Result<Done, Fault> {
+fn both(one: Result<Times, Fault>, other: Result<Times, Fault>) -> Result<Times, Fault> {
     match (one, other) {
         (Ok(one), Ok(other)) => Ok(one.and(other)?),
         (Err(Fault::Refused(JournalError::Aborted)), Err(fault)) => Err(fault),

@@ -13,22 +13,22 @@ use std::alloc::Global;
 
 /// What each transaction writes: one block at a drawn place in each of as many parts of home as it has copies.
 #[derive(Drop)]
-pub(crate) struct Plan {
+pub(crate) struct BenchPlan {
     copies: u64,
     /// Blocks of each part.
     part: u64,
     generator: Xoshiro256PlusPlus,
 }
 
-impl Plan {
+impl BenchPlan {
     /// Plans transactions of `copies` blocks of this home area, at places drawn from a seed.
     ///
     /// # Errors
     ///
     /// `BadBlock`: home has fewer blocks.
-    pub(crate) fn new(copies: u64, home_blocks: u64, seed: u64) -> Result<Plan, JournalError> {
+    pub(crate) fn new(copies: u64, home_blocks: u64, seed: u64) -> Result<BenchPlan, JournalError> {
         match home_blocks.checked_div(copies) {
-            Some(part) if part > 0 => Ok(Plan {
+            Some(part) if part > 0 => Ok(BenchPlan {
                 copies,
                 part,
                 generator: Xoshiro256PlusPlus::seed_from_u64(seed),
@@ -86,7 +86,7 @@ impl<D: Device + Drop> Work<D> {
     ///
     /// Those of a start and a write. `TooMany`: a transaction can't have so many blocks. `SequenceEnd`: no later opening would take the
     /// transaction.
-    pub(crate) fn change(&mut self, plan: &mut Plan) -> Result<Ticket, JournalError> {
+    pub(crate) fn change(&mut self, plan: &mut BenchPlan) -> Result<Ticket, JournalError> {
         if self.next > u64::from(LAST_TAKEN) {
             return Err(JournalError::SequenceEnd);
         }
@@ -100,7 +100,7 @@ impl<D: Device + Drop> Work<D> {
         }
     }
 
-    fn write_all(&mut self, handle: &mut Handle, plan: &mut Plan) -> Result<(), JournalError> {
+    fn write_all(&mut self, handle: &mut Handle, plan: &mut BenchPlan) -> Result<(), JournalError> {
         for number in 0..plan.copies {
             let (block, fill) = plan.draw(number);
             self.write(handle, block, fill)?;

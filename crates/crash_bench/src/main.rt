@@ -1,21 +1,24 @@
 //! The program `jbench`: reads its words, and holds closed standard streams so that no log file gets their number.
 //!
-//! `obeying` runs the command that the words name, `serving` is the command `serve`, and `telling` its device.
+//! `obeying` runs the command that the words name, `serving` is the command `serve`, `telling` its device, and `fetching`
+//! what it fetches.
 #![tactic(auto)]
 
+mod fetching;
 mod obeying;
 mod serving;
 mod telling;
 
 use crate::obeying::obey;
 use file_device::UnknownContents;
-use jbench_files::Text;
-use jbench_words::fault::{Status, refuse_rest};
+use jbench_files::ScriptText;
+use jbench_words::fault::{CommandStatus, refuse_rest};
 use jbench_words::{arguments, words};
 use std::fs::File;
 use std::process::ExitCode;
 use std::sync::Wait;
 use std::thread::Threads;
+use std::time::Clock;
 use std::{fs, io};
 
 /// An empty file.
@@ -39,10 +42,13 @@ fn hold_streams(rt: &HostRuntime) -> io::Result<(File, File, File)> {
 }
 
 /// Reads the program's words and runs their command, while the standard streams are held.
-fn jbench<T: Threads + Wait + Sync>(rt: &HostRuntime, threads: &T) -> io::Result<Status> {
+fn jbench<T: Threads + Wait + Clock + Sync>(
+    rt: &HostRuntime,
+    threads: &T,
+) -> io::Result<CommandStatus> {
     let _held = hold_streams(rt)?;
     let arguments = arguments::read(rt, rt.alloc())?;
-    let mut text = Text::new(rt.alloc());
+    let mut text = ScriptText::new(rt.alloc());
     match words::parse(rt.alloc(), arguments.words()) {
         Ok(words) => match arguments.no_text() {
             Some(word) => words::refuse_no_text(rt.alloc(), &words, word, &mut rt.stderr()),

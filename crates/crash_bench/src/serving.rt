@@ -11,7 +11,7 @@ use jbench_words::fault::{self, Fault};
 use jbench_words::numbers::LAST_TAKEN;
 use jbench_words::words::ServeWords;
 use journal_model::{Area, JournalError};
-use nbd_server::{Done, Export, Output, Served};
+use nbd_server::{Done, Export, Interval, Output, Prefetch, Served};
 use recovery::Opened;
 use shared_journal::{Parts, UnnamedJournal, Unrecorded, create};
 use std::alloc::Global;
@@ -32,6 +32,8 @@ pub(crate) fn serve<
     D: Device + Send + Drop,
     I: Read + Send + Drop,
     O: Write + Send + Drop,
+    A: Prefetch + Sync,
+    V: Interval + Sync,
     E: Write,
 >(
     threads: &T,
@@ -40,6 +42,8 @@ pub(crate) fn serve<
     device: D,
     input: I,
     out: O,
+    ahead: &A,
+    interval: &V,
     err: &mut E,
 ) -> io::Result<Result<D, D>>
     ensures { IfOk result (λ done. IfOk done (λ device. D.honest device → IsLeftClosed (D.state device))) }
@@ -53,7 +57,9 @@ pub(crate) fn serve<
         }
     };
     match say_opened_log(&opened, err) {
-        Ok(()) => serve_opened(threads, alloc, words, opened, input, out, err),
+        Ok(()) => serve_opened(
+            threads, alloc, words, opened, input, out, ahead, interval, err,
+        ),
         Err(Fault::Output(e)) => Err(e),
         Err(fault) => {
             fault::refuse(err, words.paths.log, &fault)?;
@@ -87,6 +93,8 @@ fn serve_opened<
     D: Device + Send + Drop,
     I: Read + Send + Drop,
     O: Write + Send + Drop,
+    A: Prefetch + Sync,
+    V: Interval + Sync,
     E: Write,
 >(
     threads: &T,
@@ -95,6 +103,8 @@ fn serve_opened<
     opened: Opened<D>,
     input: I,
     out: O,
+    ahead: &A,
+    interval: &V,
     err: &mut E,
 ) -> io::Result<Result<D, D>>
     ensures { IfOk result (λ done. IfOk done (λ device. D.honest device → IsLeftClosed (D.state device))) }
@@ -113,7 +123,9 @@ fn serve_opened<
         nameable,
     };
     let out = Output::new(out);
-    match nbd_server::serve(threads, alloc, unnamed, export, 0, input, &out) {
+    match nbd_server::serve(
+        threads, alloc, unnamed, export, 0, input, &out, ahead, interval,
+    ) {
         Ok(served) => match device_left(served) {
             Ok((done, device)) => say_done(done, device, err),
             Err((device, e)) => {

@@ -12,7 +12,7 @@ pub const HOME: Area = Area::Home;
 
 /// A call of a device, with its expected result.
 #[derive(Clone, Copy)]
-pub enum Step {
+pub enum DeviceStep {
     /// An area has this many blocks.
     Has(Area, u64),
     /// A block is filled with a byte.
@@ -66,23 +66,23 @@ fn reads_all<D: Device>(device: &mut D, area: Area, bytes: &[u8]) -> bool {
 }
 
 /// Makes a step's call; whether its result is the expected one.
-fn is_so<D: Device>(device: &mut D, step: &Step) -> bool {
+fn is_so<D: Device>(device: &mut D, step: &DeviceStep) -> bool {
     match *step {
-        Step::Has(area, blocks) => device.blocks(area) == blocks,
-        Step::Writes(area, block, byte) => write(device, area, block, byte) == Some(Ok(())),
-        Step::CantWrite(area, block, byte) => {
+        DeviceStep::Has(area, blocks) => device.blocks(area) == blocks,
+        DeviceStep::Writes(area, block, byte) => write(device, area, block, byte) == Some(Ok(())),
+        DeviceStep::CantWrite(area, block, byte) => {
             write(device, area, block, byte) == Some(Err(DeviceFault))
         }
-        Step::Reads(area, block, byte) => read(device, area, block) == Some(Ok(byte)),
-        Step::ReadsAll(area, bytes) => reads_all(device, area, bytes),
-        Step::CantRead(area, block) => read(device, area, block) == Some(Err(DeviceFault)),
-        Step::Flushes(area) => device.flush(area) == Ok(()),
-        Step::CantFlush(area) => device.flush(area) == Err(DeviceFault),
+        DeviceStep::Reads(area, block, byte) => read(device, area, block) == Some(Ok(byte)),
+        DeviceStep::ReadsAll(area, bytes) => reads_all(device, area, bytes),
+        DeviceStep::CantRead(area, block) => read(device, area, block) == Some(Err(DeviceFault)),
+        DeviceStep::Flushes(area) => device.flush(area) == Ok(()),
+        DeviceStep::CantFlush(area) => device.flush(area) == Err(DeviceFault),
     }
 }
 
 /// The first step with another result.
-pub fn first_wrong<D: Device>(device: &mut D, steps: &[Step]) -> Option<usize> {
+pub fn first_wrong<D: Device>(device: &mut D, steps: &[DeviceStep]) -> Option<usize> {
     for (n, step) in steps.iter().enumerate() {
         if !is_so(device, step) {
             return Some(n);

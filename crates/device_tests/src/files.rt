@@ -1,7 +1,7 @@
 //! Devices over real files.
 ghost use Rattle.std.specs.Prelude.{◌<◌};
 
-use crate::bytes::{HOME, LOG, SIZE, Step, first_wrong, write};
+use crate::bytes::{DeviceStep, HOME, LOG, SIZE, first_wrong, write};
 use crate::expected::expect;
 use block_device::Device;
 use file_device::{FileDevice, UnknownContents};
@@ -11,7 +11,7 @@ use std::{fs, io};
 
 /// A file for a device.
 #[derive(Clone, Copy)]
-pub enum Made<'a> {
+pub enum TestFile<'a> {
     /// It holds these bytes.
     Written(&'a [u8]),
     /// It holds these bytes, and the device can't write it.
@@ -24,9 +24,9 @@ pub enum Made<'a> {
 pub struct Case {
     /// The folder of the files, which holds nothing else.
     pub folder: &'static str,
-    pub log: Made<'static>,
-    pub home: Option<Made<'static>>,
-    pub steps: &'static [Step],
+    pub log: TestFile<'static>,
+    pub home: Option<TestFile<'static>>,
+    pub steps: &'static [DeviceStep],
     /// What the files hold after the calls, by name.
     pub files: &'static [(&'static str, &'static [u8])],
 }
@@ -39,25 +39,25 @@ fn open(rt: &HostRuntime, path: &str) -> io::Result<File> {
     OpenOptions::new().read(true).write(true).open(rt, path)
 }
 
-fn make_at(rt: &HostRuntime, path: &str, made: &Made) -> io::Result<File> {
+fn make_at(rt: &HostRuntime, path: &str, made: &TestFile) -> io::Result<File> {
     match made {
-        Made::Written(bytes) => {
+        TestFile::Written(bytes) => {
             fs::write(rt, path, *bytes)?;
             open(rt, path)
         }
-        Made::ReadOnly(bytes) => {
+        TestFile::ReadOnly(bytes) => {
             fs::write(rt, path, *bytes)?;
             fs::open(rt, path)
         }
-        Made::Unsynced => open(rt, "/dev/null"),
+        TestFile::Unsynced => open(rt, "/dev/null"),
     }
 }
 
-fn make(rt: &HostRuntime, folder: &str, name: &str, made: &Made) -> io::Result<File> {
+fn make(rt: &HostRuntime, folder: &str, name: &str, made: &TestFile) -> io::Result<File> {
     make_at(rt, path_of(rt, folder, name)?.as_str(), made)
 }
 
-fn make_home(rt: &HostRuntime, folder: &str, home: Option<&Made>) -> io::Result<Option<File>> {
+fn make_home(rt: &HostRuntime, folder: &str, home: Option<&TestFile>) -> io::Result<Option<File>> {
     match home {
         Some(home) => Ok(Some(make(rt, folder, "home", home)?)),
         None => Ok(None),
@@ -74,8 +74,8 @@ fn device_over(
     rt: &HostRuntime,
     folder: &str,
     block_size: usize,
-    log: &Made,
-    home: Option<&Made>,
+    log: &TestFile,
+    home: Option<&TestFile>,
 ) -> io::Result<FileDevice<UnknownContents>>
     requires { 0 < block_size }
 {
@@ -142,19 +142,19 @@ pub fn told(rt: &HostRuntime, case: &Case) -> io::Result<Told> {
 fn a_device_over_two_files_has_their_whole_blocks(rt: HostRuntime) -> Result<(), Fail> {
     const CASE: Case = Case {
         folder: "two_files_test",
-        log: Made::Written(b"aaaabbbbccccdd"),
-        home: Some(Made::Written(b"eeeeffff")),
+        log: TestFile::Written(b"aaaabbbbccccdd"),
+        home: Some(TestFile::Written(b"eeeeffff")),
         steps: &[
-            Step::Has(LOG, 3),
-            Step::Has(HOME, 2),
-            Step::Reads(LOG, 2, b'c'),
-            Step::Reads(HOME, 1, b'f'),
-            Step::Writes(LOG, 1, 0xa),
-            Step::Flushes(LOG),
-            Step::Writes(HOME, 0, 0xb),
-            Step::Flushes(HOME),
-            Step::Reads(LOG, 1, 0xa),
-            Step::Reads(HOME, 0, 0xb),
+            DeviceStep::Has(LOG, 3),
+            DeviceStep::Has(HOME, 2),
+            DeviceStep::Reads(LOG, 2, b'c'),
+            DeviceStep::Reads(HOME, 1, b'f'),
+            DeviceStep::Writes(LOG, 1, 0xa),
+            DeviceStep::Flushes(LOG),
+            DeviceStep::Writes(HOME, 0, 0xb),
+            DeviceStep::Flushes(HOME),
+            DeviceStep::Reads(LOG, 1, 0xa),
+            DeviceStep::Reads(HOME, 0, 0xb),
         ],
         files: &[
             ("log", b"aaaa\x0a\x0a\x0a\x0accccdd"),
@@ -170,13 +170,13 @@ fn a_device_over_two_files_has_their_whole_blocks(rt: HostRuntime) -> Result<(),
 fn a_log_alone_has_no_home_block(rt: HostRuntime) -> Result<(), Fail> {
     const CASE: Case = Case {
         folder: "lone_log_test",
-        log: Made::ReadOnly(b"aaaabbbb"),
+        log: TestFile::ReadOnly(b"aaaabbbb"),
         home: None,
         steps: &[
-            Step::Has(LOG, 2),
-            Step::Has(HOME, 0),
-            Step::Reads(LOG, 1, b'b'),
-            Step::Flushes(HOME),
+            DeviceStep::Has(LOG, 2),
+            DeviceStep::Has(HOME, 0),
+            DeviceStep::Reads(LOG, 1, b'b'),
+            DeviceStep::Flushes(HOME),
         ],
         files: &[("log", b"aaaabbbb")],
     };
@@ -189,14 +189,14 @@ fn a_log_alone_has_no_home_block(rt: HostRuntime) -> Result<(), Fail> {
 fn after_a_failed_write_nothing_is_written(rt: HostRuntime) -> Result<(), Fail> {
     const CASE: Case = Case {
         folder: "failed_write_test",
-        log: Made::Written(b"aaaabbbb"),
-        home: Some(Made::ReadOnly(b"cccc")),
+        log: TestFile::Written(b"aaaabbbb"),
+        home: Some(TestFile::ReadOnly(b"cccc")),
         steps: &[
-            Step::Writes(LOG, 1, 0xb),
-            Step::CantWrite(HOME, 0, 0xc),
-            Step::CantWrite(LOG, 0, 0xd),
-            Step::CantFlush(LOG),
-            Step::Reads(LOG, 0, b'a'),
+            DeviceStep::Writes(LOG, 1, 0xb),
+            DeviceStep::CantWrite(HOME, 0, 0xc),
+            DeviceStep::CantWrite(LOG, 0, 0xd),
+            DeviceStep::CantFlush(LOG),
+            DeviceStep::Reads(LOG, 0, b'a'),
         ],
         files: &[("log", b"aaaa\x0b\x0b\x0b\x0b"), ("home", b"cccc")],
     };
@@ -209,14 +209,14 @@ fn after_a_failed_write_nothing_is_written(rt: HostRuntime) -> Result<(), Fail> 
 fn after_a_failed_flush_nothing_is_written(rt: HostRuntime) -> Result<(), Fail> {
     const CASE: Case = Case {
         folder: "failed_flush_test",
-        log: Made::Written(b"aaaabbbb"),
-        home: Some(Made::Unsynced),
+        log: TestFile::Written(b"aaaabbbb"),
+        home: Some(TestFile::Unsynced),
         steps: &[
-            Step::Flushes(LOG),
-            Step::CantFlush(HOME),
-            Step::CantWrite(LOG, 0, 0xd),
-            Step::CantFlush(LOG),
-            Step::Reads(LOG, 0, b'a'),
+            DeviceStep::Flushes(LOG),
+            DeviceStep::CantFlush(HOME),
+            DeviceStep::CantWrite(LOG, 0, 0xd),
+            DeviceStep::CantFlush(LOG),
+            DeviceStep::Reads(LOG, 0, b'a'),
         ],
         files: &[("log", b"aaaabbbb")],
     };
@@ -228,14 +228,14 @@ fn after_a_failed_flush_nothing_is_written(rt: HostRuntime) -> Result<(), Fail> 
 fn a_flush_of_the_log_syncs_its_file(rt: HostRuntime) -> Result<(), Fail> {
     const CASE: Case = Case {
         folder: "unsynced_log_test",
-        log: Made::Unsynced,
-        home: Some(Made::Written(b"aaaabbbb")),
+        log: TestFile::Unsynced,
+        home: Some(TestFile::Written(b"aaaabbbb")),
         steps: &[
-            Step::Flushes(HOME),
-            Step::CantFlush(LOG),
-            Step::CantWrite(HOME, 0, 0xd),
-            Step::CantFlush(HOME),
-            Step::Reads(HOME, 0, b'a'),
+            DeviceStep::Flushes(HOME),
+            DeviceStep::CantFlush(LOG),
+            DeviceStep::CantWrite(HOME, 0, 0xd),
+            DeviceStep::CantFlush(HOME),
+            DeviceStep::Reads(HOME, 0, b'a'),
         ],
         files: &[("home", b"aaaabbbb")],
     };
@@ -259,15 +259,15 @@ fn told_once_cut(rt: &HostRuntime, case: &Case) -> io::Result<Told> {
 fn after_a_failed_read_the_device_goes_on(rt: HostRuntime) -> Result<(), Fail> {
     const CASE: Case = Case {
         folder: "failed_read_test",
-        log: Made::Written(b"aaaabbbb"),
+        log: TestFile::Written(b"aaaabbbb"),
         home: None,
         steps: &[
-            Step::CantRead(LOG, 1),
-            Step::Reads(LOG, 0, b'a'),
-            Step::Writes(LOG, 1, 0xb),
-            Step::Flushes(LOG),
-            Step::Reads(LOG, 1, 0xb),
-            Step::Has(LOG, 2),
+            DeviceStep::CantRead(LOG, 1),
+            DeviceStep::Reads(LOG, 0, b'a'),
+            DeviceStep::Writes(LOG, 1, 0xb),
+            DeviceStep::Flushes(LOG),
+            DeviceStep::Reads(LOG, 1, 0xb),
+            DeviceStep::Has(LOG, 2),
         ],
         files: &[("log", b"aaaa\x0b\x0b\x0b\x0b")],
     };
@@ -276,8 +276,8 @@ fn after_a_failed_read_the_device_goes_on(rt: HostRuntime) -> Result<(), Fail> {
 }
 
 /// What the device reports after a failed write to home.
-fn told_failure(rt: &HostRuntime, folder: &str, home: &Made) -> Result<String, Fail> {
-    let log = Made::Written(b"aaaabbbb");
+fn told_failure(rt: &HostRuntime, folder: &str, home: &TestFile) -> Result<String, Fail> {
+    let log = TestFile::Written(b"aaaabbbb");
     let mut device = device_over(rt, folder, SIZE, &log, Some(home))?;
     let before = device.failure().is_none();
     let _ = write(&mut device, HOME, 1, 0xc);
@@ -292,7 +292,7 @@ fn told_failure(rt: &HostRuntime, folder: &str, home: &Made) -> Result<String, F
 
 #[test]
 fn a_failure_tells_what_the_system_answered(rt: HostRuntime) -> Result<(), Fail> {
-    let told = told_failure(&rt, "told_failure_test", &Made::ReadOnly(b"ccccdddd"))?;
+    let told = told_failure(&rt, "told_failure_test", &TestFile::ReadOnly(b"ccccdddd"))?;
     assert_eq!(rt;
         told.as_str(),
         "it can't be written from byte 4 on: Bad file descriptor (os error 9)"
@@ -330,7 +330,7 @@ fn reads_as_written<D: Device>(device: &mut D, block: &[u8]) -> bool {
 
 /// Whether the device, and then the file, has block 1 as written.
 fn written_whole(rt: &HostRuntime, folder: &str, log: &[u8; THREE]) -> io::Result<(bool, bool)> {
-    let zeros = Made::Written(&[0; THREE]);
+    let zeros = TestFile::Written(&[0; THREE]);
     let mut device = device_over(rt, folder, LARGEST, &zeros, None)?;
     let read = reads_as_written(&mut device, &log[LARGEST..2 * LARGEST]);
     Ok((read, holds(rt, folder, "log", log)?))

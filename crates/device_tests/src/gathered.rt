@@ -1,23 +1,23 @@
 //! Consecutive writes over real files.
-use crate::bytes::{HOME, LOG, Step};
+use crate::bytes::{DeviceStep, HOME, LOG};
 use crate::expected::expect;
-use crate::files::{Case, Made, RIGHT, told};
+use crate::files::{Case, RIGHT, TestFile, told};
 use std::test::Fail;
 
 #[test]
 fn a_gathered_block_reads_as_it_was_written_last(rt: HostRuntime) -> Result<(), Fail> {
     const CASE: Case = Case {
         folder: "gathered_test",
-        log: Made::Written(b"aaaabbbbccccdddd"),
+        log: TestFile::Written(b"aaaabbbbccccdddd"),
         home: None,
         steps: &[
-            Step::Writes(LOG, 1, 1),
-            Step::Writes(LOG, 2, 2),
-            Step::ReadsAll(LOG, b"a\x01\x02d"),
-            Step::Writes(LOG, 2, 3),
-            Step::ReadsAll(LOG, b"a\x01\x03d"),
-            Step::Flushes(LOG),
-            Step::ReadsAll(LOG, b"a\x01\x03d"),
+            DeviceStep::Writes(LOG, 1, 1),
+            DeviceStep::Writes(LOG, 2, 2),
+            DeviceStep::ReadsAll(LOG, b"a\x01\x02d"),
+            DeviceStep::Writes(LOG, 2, 3),
+            DeviceStep::ReadsAll(LOG, b"a\x01\x03d"),
+            DeviceStep::Flushes(LOG),
+            DeviceStep::ReadsAll(LOG, b"a\x01\x03d"),
         ],
         files: &[("log", b"aaaa\x01\x01\x01\x01\x03\x03\x03\x03dddd")],
     };
@@ -30,9 +30,9 @@ fn a_gathered_block_reads_as_it_was_written_last(rt: HostRuntime) -> Result<(), 
 fn what_is_gathered_is_written_when_the_device_is_let_go(rt: HostRuntime) -> Result<(), Fail> {
     const CASE: Case = Case {
         folder: "let_go_test",
-        log: Made::Written(b"aaaabbbbccccdddd"),
+        log: TestFile::Written(b"aaaabbbbccccdddd"),
         home: None,
-        steps: &[Step::Writes(LOG, 1, 1), Step::Writes(LOG, 2, 2)],
+        steps: &[DeviceStep::Writes(LOG, 1, 1), DeviceStep::Writes(LOG, 2, 2)],
         files: &[("log", b"aaaa\x01\x01\x01\x01\x02\x02\x02\x02dddd")],
     };
     expect(&rt, &told(&rt, &CASE)?, &(None, false, true));
@@ -44,15 +44,15 @@ fn what_is_gathered_is_written_when_the_device_is_let_go(rt: HostRuntime) -> Res
 fn gathered_blocks_that_fail_are_read_from_the_device(rt: HostRuntime) -> Result<(), Fail> {
     const CASE: Case = Case {
         folder: "late_test",
-        log: Made::ReadOnly(b"aaaabbbbccccdddd"),
+        log: TestFile::ReadOnly(b"aaaabbbbccccdddd"),
         home: None,
         steps: &[
-            Step::Writes(LOG, 1, 1),
-            Step::Writes(LOG, 2, 2),
-            Step::CantFlush(LOG),
-            Step::CantWrite(LOG, 3, 4),
-            Step::CantFlush(HOME),
-            Step::ReadsAll(LOG, b"a\x01\x02d"),
+            DeviceStep::Writes(LOG, 1, 1),
+            DeviceStep::Writes(LOG, 2, 2),
+            DeviceStep::CantFlush(LOG),
+            DeviceStep::CantWrite(LOG, 3, 4),
+            DeviceStep::CantFlush(HOME),
+            DeviceStep::ReadsAll(LOG, b"a\x01\x02d"),
         ],
         files: &[("log", b"aaaabbbbccccdddd")],
     };
@@ -65,13 +65,13 @@ fn gathered_blocks_that_fail_are_read_from_the_device(rt: HostRuntime) -> Result
 fn a_write_elsewhere_fails_with_what_was_gathered(rt: HostRuntime) -> Result<(), Fail> {
     const CASE: Case = Case {
         folder: "elsewhere_test",
-        log: Made::ReadOnly(b"aaaabbbb"),
-        home: Some(Made::Written(b"cccc")),
+        log: TestFile::ReadOnly(b"aaaabbbb"),
+        home: Some(TestFile::Written(b"cccc")),
         steps: &[
-            Step::Writes(LOG, 1, 1),
-            Step::CantWrite(HOME, 0, 2),
-            Step::Reads(LOG, 1, 1),
-            Step::Reads(HOME, 0, b'c'),
+            DeviceStep::Writes(LOG, 1, 1),
+            DeviceStep::CantWrite(HOME, 0, 2),
+            DeviceStep::Reads(LOG, 1, 1),
+            DeviceStep::Reads(HOME, 0, b'c'),
         ],
         files: &[("log", b"aaaabbbb"), ("home", b"cccc")],
     };
@@ -84,18 +84,18 @@ fn a_write_elsewhere_fails_with_what_was_gathered(rt: HostRuntime) -> Result<(),
 fn writes_to_both_areas_by_turns_are_kept(rt: HostRuntime) -> Result<(), Fail> {
     const CASE: Case = Case {
         folder: "turns_test",
-        log: Made::Written(b"aaaabbbb"),
-        home: Some(Made::Written(b"eeeeffffgggghhhh")),
+        log: TestFile::Written(b"aaaabbbb"),
+        home: Some(TestFile::Written(b"eeeeffffgggghhhh")),
         steps: &[
-            Step::Writes(HOME, 0, 0xa),
-            Step::Writes(HOME, 1, 0xb),
-            Step::Writes(HOME, 2, 0xc),
-            Step::Writes(LOG, 0, 0xd),
-            Step::Writes(HOME, 2, 0xe),
-            Step::Writes(LOG, 1, 0xf),
-            Step::Flushes(HOME),
-            Step::ReadsAll(HOME, b"\x0a\x0b\x0eh"),
-            Step::ReadsAll(LOG, b"\x0d\x0f"),
+            DeviceStep::Writes(HOME, 0, 0xa),
+            DeviceStep::Writes(HOME, 1, 0xb),
+            DeviceStep::Writes(HOME, 2, 0xc),
+            DeviceStep::Writes(LOG, 0, 0xd),
+            DeviceStep::Writes(HOME, 2, 0xe),
+            DeviceStep::Writes(LOG, 1, 0xf),
+            DeviceStep::Flushes(HOME),
+            DeviceStep::ReadsAll(HOME, b"\x0a\x0b\x0eh"),
+            DeviceStep::ReadsAll(LOG, b"\x0d\x0f"),
         ],
         files: &[
             ("log", b"\x0d\x0d\x0d\x0d\x0f\x0f\x0f\x0f"),
@@ -114,14 +114,14 @@ fn writes_to_both_areas_by_turns_are_kept(rt: HostRuntime) -> Result<(), Fail> {
 fn a_log_that_is_gone_over_shows_what_is_gathered(rt: HostRuntime) -> Result<(), Fail> {
     const CASE: Case = Case {
         folder: "gone_over_test",
-        log: Made::Written(b"aaaabbbbccccdddd"),
+        log: TestFile::Written(b"aaaabbbbccccdddd"),
         home: None,
         steps: &[
-            Step::ReadsAll(LOG, b"abcd"),
-            Step::Writes(LOG, 2, 9),
-            Step::ReadsAll(LOG, b"ab\x09d"),
-            Step::Flushes(LOG),
-            Step::ReadsAll(LOG, b"ab\x09d"),
+            DeviceStep::ReadsAll(LOG, b"abcd"),
+            DeviceStep::Writes(LOG, 2, 9),
+            DeviceStep::ReadsAll(LOG, b"ab\x09d"),
+            DeviceStep::Flushes(LOG),
+            DeviceStep::ReadsAll(LOG, b"ab\x09d"),
         ],
         files: &[("log", b"aaaabbbb\x09\x09\x09\x09dddd")],
     };

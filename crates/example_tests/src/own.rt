@@ -3,7 +3,7 @@ ghost use Rattle.std.specs.Prelude.{◌≡◌};
 
 use crate::expected::expect;
 use keelsoursop::threads::{
-    Client, Gate, JournalName, OpenGate, Session, UnnamedJournal, serve_clients,
+    Client, Gate, JournalName, NoInterval, OpenGate, Session, UnnamedJournal, serve_clients,
 };
 use keelsoursop::{BlockNo, Device, JournalError, MemDevice, Record};
 use std::alloc::Global;
@@ -83,7 +83,7 @@ fn look<J: JournalName + Send + Sync, R: Threads + Wait + Sync>(
 {
     let (journal, seat) = unnamed.named::<J>();
     let served = match lookers(alloc) {
-        Ok(lookers) => serve_clients(rt, alloc, &journal, seat, lookers, &OpenGate),
+        Ok(lookers) => serve_clients(rt, alloc, &journal, seat, lookers, &OpenGate, &NoInterval),
         Err(e) => Err(e),
     };
     let closed = journal.close().is_ok();

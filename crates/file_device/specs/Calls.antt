@@ -4,7 +4,7 @@ use Rattle.journal_model.specs.declared.number.Area.{Area}
 
 -- A call on the file of an area. Lengths and places are in bytes, places from the beginning of the file.
 pub data FileCall : Type 0 where
-  Measured : Area → ℕ → FileCall  -- the file's length; 0 for an area without a file
+  Measured : Area → ℕ → FileCall  -- the file's length, or the part of it that the area has; 0 for an area without a file
   Read : Area → ℕ → List ℕ → FileCall  -- these bytes came from this place on
   ReadFailed : Area → ℕ → FileCall  -- a read from this place on failed
   Wrote : Area → ℕ → List ℕ → FileCall  -- these bytes were taken at this place

@@ -19,7 +19,7 @@ pub record FileState : Type 0 where
   pub block_size : ℕ
   pub log_file : File
   pub home_file : Option File
-  pub log_bytes : ℕ  -- the files' lengths when the device was made; 0 without a home file
+  pub log_bytes : ℕ  -- the areas' lengths when the device was made; 0 without a home file
   pub home_bytes : ℕ
   pub gathered : List FileCall  -- writes that it took and has not made on a file yet, newest first
   pub calls : List FileCall  -- its calls on its files, newest first

@@ -1,10 +1,11 @@
 //! Makes a device's calls on its files. Each function makes one call of `std::fs::File` on an area's file, and notes it with its exact
 //! answer. No proof sees what the call does, so read these functions.
-ghost use Rattle.std.specs.Prelude.{◌≡◌, ◌+◌, ◌/◌, ◌<◌, ◌^◌, length, [], option_map, IsNone, IfOk, IfErr, OnOk, OnErr};
+ghost use Rattle.std.specs.Prelude.{◌≡◌, ◌+◌, ◌/◌, ◌<◌, ◌≤◌, ◌^◌, length, [], option_map, IsNone, IfOk, IfErr, OnOk, OnErr};
 ghost use Rattle.journal_model.specs.declared.number.Area.TheVariants.{Home};
 ghost use Rattle.file_device.specs.Calls.{Measured, Read, ReadFailed, Wrote, WriteFailed, GatheredFailed, Synced, SyncFailed};
 
 use crate::history::{History, Note};
+use crate::length::length_of;
 use crate::unmeasured::Unmeasured;
 use journal_model::Area;
 use std::fs::File;
@@ -33,6 +34,11 @@ impl NotedFiles {
         }
     }
 
+    /// Home's file once more, for `Fetcher`; `None` if there is none, or the system gives no more.
+    pub(crate) fn home_again(&self) -> Option<File> {
+        self.home.as_ref()?.try_clone().ok()
+    }
+
     fn file(&self, area: Area) -> Option<&File>
         ensures { option_map (λ file. file.now) result ≡ file_of self.now area }
     {
@@ -42,15 +48,17 @@ impl NotedFiles {
         }
     }
 
-    /// The length of an area's file in bytes; 0 without a file, and then there is no call. A failed call is not noted: no device is made
-    /// then.
-    pub(crate) fn measure(&mut self, area: Area) -> Result<u64, Unmeasured>
+    /// The length of an area's file in bytes, of which the area has at most so many; 0 without a file, and then there is no call. A failed
+    /// call is not noted: no device is made then.
+    pub(crate) fn measure(&mut self, area: Area, most: u64) -> Result<u64, Unmeasured>
         ensures noted { IfOk result (λ length. self.new ≡ with_call self.old (Measured area length)) }
         ensures lone { IsNone self.old.home → area ≡ Home → result ≡ Ok 0 }
+        ensures most { IfOk result (λ length. length ≤ most) }
         ensures whose { IfErr result (λ e. e.area ≡ area) }
     {
         match self.length(area) {
             Ok(length) => {
+                let length = length.min(most);
                 self.history = self.history.then(&Note::Measured(area, length));
                 Ok(length)
             }
@@ -62,7 +70,7 @@ impl NotedFiles {
         ensures { IsNone self.now.home → area ≡ Home → result ≡ Ok 0 }
     {
         match self.file(area) {
-            Some(file) => Ok(file.metadata()?.len()),
+            Some(file) => length_of(file),
             None => Ok(0),
         }
     }

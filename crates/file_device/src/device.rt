@@ -18,6 +18,7 @@ ghost use Rattle.file_device.specs.Files.{FileContents, counted};
 use crate::ahead::{Ahead, MOST_BYTES, copy_block};
 use crate::calls::NotedFiles;
 use crate::failure::{FailedCall, Failure};
+use crate::fetching::Fetcher;
 use crate::gathered::Gathered;
 use crate::unmeasured::Unmeasured;
 use block_device::{Device, DeviceFault};
@@ -140,22 +141,23 @@ fn place_of(n: u64, size: usize, length: u64) -> u64
 }
 
 impl<C: Contents> FileDevice<C> {
-    ghost use Rattle.std.specs.Prelude.{◌≡◌, ◌<◌, [], ◌∷◌, length, true, IfErr, IfOk, IsNone, IsSome, IsTrue, OnErr, OnOk};
+    ghost use Rattle.std.specs.Prelude.{◌≡◌, ◌<◌, ◌≤◌, [], ◌∷◌, length, true, IfErr, IfOk, IsNone, IsSome, IsTrue, OnErr, OnOk};
     ghost use Rattle.block_device.specs.State.{blocks_in, one_more_fault};
     ghost use Rattle.journal_model.specs.declared.number.Area.TheVariants.{Home, Log};
     ghost use Rattle.file_device.specs.Ahead.{HasRead, HasFailedRead};
     ghost use Rattle.file_device.specs.Calls.{Wrote, WriteFailed};
     ghost use Rattle.file_device.specs.Files.{FailsToHandOn, HasAgreed, bytes_in, file_shape, file_state, files_disk, handed_on, new_device};
 
-    /// Makes a device with blocks of `block_size` bytes over two regular files, open for reading, and for writing if the device is to be
-    /// written. Their names and lengths are not synced here. The value of `C` is consumed, so that it stands for one device's files.
+    /// Makes a device with blocks of `block_size` bytes over two files, each a regular one or a block device, open for reading, and for
+    /// writing if the device is to be written. Their names and lengths are not synced here. The value of `C` is consumed, so that it stands
+    /// for one device's files.
     ///
     /// # Errors
     ///
     /// The system can't tell the length of a file; `Unmeasured` has its area and the system's answer. Both files are closed.
     pub fn new(
         alloc: Global,
-        _contents: C,
+        contents: C,
         block_size: usize,
         log: File,
         home: Option<File>,
@@ -165,9 +167,31 @@ impl<C: Contents> FileDevice<C> {
         ensures lone { IsNone home → IfOk result (λ device. device.home_bytes ≡ 0) }
         ensures refused { IfErr result (λ e. e.area ≡ Home → IsSome home) }
     {
+        FileDevice::with_log_of(alloc, contents, block_size, log, u64::MAX, home)
+    }
+
+    /// Makes a device as `new` does, whose log area has at most the first `log_bytes` bytes of its file.
+    ///
+    /// # Errors
+    ///
+    /// Those of `new`.
+    pub fn with_log_of(
+        alloc: Global,
+        _contents: C,
+        block_size: usize,
+        log: File,
+        log_bytes: u64,
+        home: Option<File>,
+    ) -> Result<Self, Unmeasured>
+        requires block { 0 < block_size }
+        ensures new { IfOk result (λ device. device ≡ new_device block_size log home device.log_bytes device.home_bytes) }
+        ensures most { IfOk result (λ device. device.log_bytes ≤ log_bytes) }
+        ensures lone { IsNone home → IfOk result (λ device. device.home_bytes ≡ 0) }
+        ensures refused { IfErr result (λ e. e.area ≡ Home → IsSome home) }
+    {
         let mut files = NotedFiles::new(log, home);
-        let log_bytes = files.measure(Area::Log)?;
-        let home_bytes = files.measure(Area::Home)?;
+        let log_bytes = files.measure(Area::Log, log_bytes)?;
+        let home_bytes = files.measure(Area::Home, u64::MAX)?;
         Ok(FileDevice {
             contents: PhantomData,
             files,
@@ -180,6 +204,13 @@ impl<C: Contents> FileDevice<C> {
             ahead: Ahead::new(alloc),
             gathered: Gathered::new(alloc),
             failure: None,
+        })
+    }
+
+    /// What fetches bytes of home; `None` if there is no home, or the system opens no more files.
+    pub fn fetcher(&self) -> Option<Fetcher> {
+        Some(Fetcher {
+            home: self.files.home_again()?,
         })
     }
 

@@ -1,6 +1,7 @@
 //! Makes a log durable that, after a failed sync, may be in the system's memory alone.
 ghost use Rattle.std.specs.Prelude.{◌≤◌};
 
+use crate::length::length_of;
 use std::fs::File;
 use std::io;
 use std::os::unix::fs::FileExt;
@@ -32,7 +33,7 @@ const WHOLE_PAIRS: u64 = 2;
 ///
 /// The file can't be read, written or synced: what the disk has is as unknown as before.
 pub fn make_durable(file: &File, bytes: u64) -> io::Result<()> {
-    let bytes = bytes.min(file.metadata()?.len());
+    let bytes = bytes.min(length_of(file)?);
     rewrite_every_other(file, 0, bytes)?;
     rewrite_every_other(file, PAGE as u64, bytes)
 }

@@ -22,7 +22,7 @@ unsafe impl Send for History {}
 /// A call on an area's file, with its answer. Lengths and places are in bytes, places from the beginning of the file.
 #[derive(Clone, Copy, Drop)]
 pub(crate) enum Note<'a> {
-    /// The length of the file; 0 for an area without a file.
+    /// The length of the file, or the part of it that the area has; 0 for an area without a file.
     Measured(Area, u64),
     /// These bytes came from this place on.
     Read(Area, u64, &'a [u8]),

@@ -1,6 +1,6 @@
 -- The parts of a journal that closed, or whose close was refused.
 use Rattle.std.proofs.Common.{refl, sym, ◌∙◌, ap, subst, arith, inr}
-use Rattle.std.specs.Prelude.{◌≡◌, ℕ, ◌≤◌, false, [], ◌∷◌, length, Result, Ok, Err, IfErr, MatchResult}
+use Rattle.std.specs.Prelude.{◌≡◌, ℕ, ◌≤◌, false, [], ◌∷◌, length, Result, Ok, Err, MatchResult}
 use Rattle.std.proofs.lemmas.Bool.{true≢false}
 use Rattle.journal_model.specs.declared.refusal.JournalError.{JournalError}
 use Rattle.journal_model.specs.declared.refusal.JournalError.TheVariants.{Device}
@@ -63,11 +63,7 @@ no-elements : (ts : History) → length ts ≡ 0 → ts ≡ []
 no-elements [] none = refl
 no-elements (t ∷ ts) none = absurd (omega arith)
 
--- an error's weaker property follows from its stronger one
-pub err-weaker : {T E : Type 0} (r : Result T E) (P Q : E → Type 0) → ((e : E) → P e → Q e) → IfErr r P → IfErr r Q
-err-weaker (Ok x) P Q weaker p = tt
-err-weaker (Err e) P Q weaker p = weaker e p
-
+-- weaker properties of either answer follow from stronger ones
 pub both-weaker : {T E : Type 0} (r : Result T E) (P Q : T → Type 0) (R S : E → Type 0) → ((x : T) → P x → Q x) → ((e : E) → R e → S e) →
     MatchResult r P R → MatchResult r Q S
 both-weaker (Ok x) P Q R S weaker other p = weaker x p

@@ -1,5 +1,6 @@
 -- Lemmas that only this crate cites.
 mod Closed
+mod Closing
 mod Extending
 mod Finishing
 mod Leading

@@ -1,27 +1,25 @@
 -- The device calls of turns, in sequence.
 use Rattle.std.proofs.Common.{refl, sym, ◌∙◌, ap, subst, arith, ⊎_elim}
-use Rattle.std.specs.Prelude.{◌≡◌, ◌≢◌, ℕ, zero, suc, true, false, length, eqb, Result, Ok, Err, IfErr, IfOk, MatchResult}
+use Rattle.std.specs.Prelude.{◌≡◌, ◌≢◌, ℕ, zero, suc, true, false, length, eqb}
 use Rattle.std.proofs.lemmas.Bool.{true≢false}
 use Rattle.std.proofs.lemmas.Bool.Decides.{eqb_tells}
 use Rattle.journal_model.specs.declared.refusal.JournalError.{JournalError}
-use Rattle.journal_model.specs.Transaction.{History}
 use Rattle.block_device.specs.State.{DeviceState, MakesAtMostOneCall}
 use Rattle.journal_world.specs.declared.stage.Stage.TheVariants.{Idle}
 use Rattle.journal_world.specs.Engine.{CommitFaults, CommitSteps, Engine}
 use Rattle.journal_world.specs.Checkpoint.{RoundFaults}
 use Rattle.journal_world.specs.Journal.{Journal, batch_of}
 use Rattle.journal_world.specs.Journal.Event.{Seal}
-use Rattle.log_engine.specs.Close.{MakesCloseCalls}
 use Rattle.log_engine.specs.Engine.{EngineValue}
 use Rattle.journal_steps.specs.declared.turn.CheckTurn.{CheckTurn}
 use Rattle.journal_steps.specs.declared.turn.CheckTurn.TheVariants.{Idle as IdleCheck, Step as StepCheck, Released}
 use Rattle.journal_steps.specs.declared.turn.Turn.{Turn}
 use Rattle.journal_steps.specs.declared.turn.Turn.TheVariants.{Idle as IdleTurn, Waiting, Step, Sealed, Committed}
-use Rattle.journal_steps.specs.Journal.{Agrees, CheckTurnDid, CheckTurnRefused, Does, Requests, TurnDid, TurnRefused}
+use Rattle.journal_steps.specs.Journal.{CheckTurnDid, CheckTurnRefused, Does, Requests, TurnDid, TurnRefused}
 use Rattle.journal_steps.specs.Journal.CheckTurnRefused.{CheckAborted, CheckFailed}
 use Rattle.journal_steps.specs.Journal.TurnRefused.{DeviceFailed, MemoryIsShort, RingIsShort, WasAborted}
 use Rattle.journal_steps.specs.Values.{JournalValue}
-use Rattle.group_commit.specs.Calls.{CallsForClose, CallsForTurns, IsOwnStep, MakesOwnCalls, engine_in}
+use Rattle.group_commit.specs.Calls.{CallsForTurns, IsOwnStep, MakesOwnCalls, engine_in}
 use Rattle.group_commit.specs.Calls.IsOwnStep.{Commits, CommitFails, Checkpoints, CheckpointFails}
 use Rattle.group_commit.specs.Calls.MakesOwnCalls.{NoCall, HandsOver, OneMore}
 use Rattle.group_commit.specs.Close.{locked_journal}
@@ -113,16 +111,3 @@ module _ {D : Type 0} (state : D → DeviceState) where
 
   pub asked-calls : (tid : ℕ) (old new : JournalValue D) → Requests state tid old new → new.device ≡ old.device → CallsForTurns state old new
   asked-calls tid old new asks device = no-calls old new (asked-of tid old new asks (length old.journal.front.running.handles) refl) device
-
-  -- those of the turns, and then those that close the log, whatever its answer is
-  pub calls-closed : {T E : Type 0} (r : Result T E) (in_ok : T → D) (in_err : E → D) (sealed : T → History) (unclosed : E → History) (All : T → Type 0)
-      (Why Count Fails : E → Type 0) (a b : JournalValue D) → CallsForTurns state a b →
-      IfOk r (λ x. (sealed x ≡ b.journal.front.sealed) × All x) →
-      IfErr r (λ e. Why e × (unclosed e ≡ b.journal.front.sealed) × Count e × Fails e) →
-      MatchResult r (λ x. Agrees b.journal × MakesCloseCalls state (engine_in b) (in_ok x))
-      (λ e. Agrees b.journal × MakesCloseCalls state (engine_in b) (in_err e)) →
-      MatchResult r (λ x. CallsForClose state a (in_ok x) (sealed x)) (λ e. CallsForClose state a (in_err e) (unclosed e))
-  calls-closed (Ok x) in_ok in_err sealed unclosed All Why Count Fails a b turns ok err calls =
-      record { last = b; turns = turns; agrees = calls.0; sealed_is = ok.0; closing = calls.1 }
-  calls-closed (Err e) in_ok in_err sealed unclosed All Why Count Fails a b turns ok err calls =
-      record { last = b; turns = turns; agrees = calls.0; sealed_is = err.1; closing = calls.1 }

@@ -1,6 +1,6 @@
 -- What holds at each moment of turns, in sequence.
 use Rattle.std.proofs.Common.{refl, sym, ◌∙◌, ap, subst, arith, inl, inr, ⊎_elim}
-use Rattle.std.specs.Prelude.{◌≡◌, ◌≢◌, ℕ, zero, suc, ◌≤◌, true, false, List, [], ◌∷◌, ◌++◌, eqb, length, Result, Ok, Err, MatchResult}
+use Rattle.std.specs.Prelude.{◌≡◌, ◌≢◌, ℕ, zero, suc, ◌≤◌, true, false, List, [], ◌∷◌, ◌++◌, eqb, length}
 use Rattle.std.proofs.lemmas.Bool.Decides.{eqb_tells}
 use Rattle.std.specs.List.{AllByRecursion}
 use Rattle.journal_model.specs.declared.number.Area.TheVariants.{Home}
@@ -276,7 +276,7 @@ module _ {D : Type 0} (state : D → DeviceState) where
           }
 
   -- the log's close after everything before it
-  each-finished : (a b : JournalValue D) (device : D) → IsFinished state a b → b.journal.engine.shape ≡ a.journal.engine.shape → HoldsDuringTurns state a b →
+  pub each-finished : (a b : JournalValue D) (device : D) → IsFinished state a b → b.journal.engine.shape ≡ a.journal.engine.shape → HoldsDuringTurns state a b →
       EachRoundTo b device → EachTo a device
   each-finished a b device done shape first second =
       let P = IsDuringTurns a.journal (state a.device).disk in
@@ -303,15 +303,6 @@ module _ {D : Type 0} (state : D → DeviceState) where
         opens =
             subst (λ (s : Shape). OpensOver s b.journal.front.sealed b.journal.engine.committed (length b.journal.front.sealed) disk) shape during.opens;
       }
-
-  -- so it is for either answer of the close
-  pub each-closed : {T E : Type 0} (honest : D → Type 0) (r : Result T E) (in_ok : T → D) (in_err : E → D) (a b : JournalValue D) → IsFinished state a b →
-      b.journal.engine.shape ≡ a.journal.engine.shape → (honest b.device → HoldsDuringTurns state a b) →
-      MatchResult r (λ x. honest (in_ok x) → honest b.device) (λ e. honest (in_err e) → honest b.device) →
-      MatchResult r (λ x. honest (in_ok x) → EachRoundTo b (in_ok x)) (λ e. honest (in_err e) → EachRoundTo b (in_err e)) →
-      MatchResult r (λ x. honest (in_ok x) → EachTo a (in_ok x)) (λ e. honest (in_err e) → EachTo a (in_err e))
-  each-closed honest (Ok x) in_ok in_err a b done shape first back each = λ now. each-finished a b (in_ok x) done shape (first (back now)) (each now)
-  each-closed honest (Err e) in_ok in_err a b done shape first back each = λ now. each-finished a b (in_err e) done shape (first (back now)) (each now)
 
   -- a request changes only the lock
   record IsAsked (a b : JournalValue D) : Type 0 where

@@ -1,4 +1,5 @@
 pub mod Close
+pub mod Closes
 pub mod Extension
 pub mod Values
 pub mod AllTurns

@@ -1,10 +1,7 @@
 //! Direct writes: bytes go straight home, past the log, to a block that the transactions leave to home; a flush of home makes them durable.
 //! Source: this project's own, by what journal.rst says of revokes (a block that is no longer journalled may be written in place).
-ghost use Rattle.std.specs.Prelude.{◌≡◌, length, IfErr, OnOk};
-ghost use Rattle.journal_world.specs.Journal.Event.{DirectSync, DirectWrite};
-ghost use Rattle.block_device.specs.Call.{MakesOneCall};
-ghost use Rattle.journal_steps.specs.Direct.{DirectSyncRefused, DirectWriteRefused, IsDuringDirectSync, IsDuringDirectWrite, MayWriteDirectly};
-ghost use Rattle.journal_steps.specs.Journal.{Does};
+ghost use Rattle.std.specs.Prelude.{◌≡◌, length};
+ghost use Rattle.journal_steps.specs.Verbs.{SyncsDirectly, WritesDirectly};
 
 use crate::journal::Journal;
 use block_device::Device;
@@ -24,11 +21,7 @@ impl<D: Device, R: Record> Journal<D, R> {
     /// Source: this project's own, by what journal.rst says of revokes.
     pub fn write_direct(&mut self, block: BlockNo, bytes: &[u8]) -> Result<(), JournalError>
         requires { length bytes.now ≡ (D.state self.old.device).shape.block_size }
-        ensures right { OnOk result (MayWriteDirectly self.old.journal block) }
-        ensures ok { OnOk result (Does D.state self.old (DirectWrite block bytes.now) self.new) }
-        ensures err { IfErr result (λ e. DirectWriteRefused D.state self.old block bytes.now self.new e) }
-        ensures no_fault { OnOk result ((D.state self.new.device).faults ≡ (D.state self.old.device).faults) }
-        ensures device { MakesOneCall D.state D.honest (IsDuringDirectWrite self.old.journal block bytes.now (D.state self.old.device).disk) self.old.device self.new.device }
+        ensures { WritesDirectly D.state D.honest self.old block bytes.now self.new result }
     {
         steps::write_direct(&mut self.front, &mut self.engine, block, bytes)
     }
@@ -40,10 +33,7 @@ impl<D: Device, R: Record> Journal<D, R> {
     /// `Aborted`. `Device`: nothing more is durable.
     /// Source: this project's own; a flush request (the kernel's writeback_cache_control.rst).
     pub fn sync_direct(&mut self) -> Result<(), JournalError>
-        ensures ok { OnOk result (Does D.state self.old DirectSync self.new) }
-        ensures err { IfErr result (λ e. DirectSyncRefused D.state self.old self.new e) }
-        ensures no_fault { OnOk result ((D.state self.new.device).faults ≡ (D.state self.old.device).faults) }
-        ensures device { MakesOneCall D.state D.honest (IsDuringDirectSync self.old.journal (D.state self.old.device).disk) self.old.device self.new.device }
+        ensures { SyncsDirectly D.state D.honest self.old self.new result }
     {
         steps::sync_direct(&mut self.front, &mut self.engine)
     }

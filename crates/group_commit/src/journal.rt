@@ -1,35 +1,31 @@
 //! The journal of one thread: a front and an engine, and the calls on them.
 ghost use Rattle.std.specs.Prelude.{◌≡◌, ◌<◌, ◌≤◌, ◌≢◌, ◌↔◌, true, false, length, [], IfOk, IfErr, MatchResult, OnOk, IsTrue};
-ghost use Rattle.journal_model.specs.declared.refusal.JournalError.TheVariants.{Aborted, Device as DeviceFailed, Memory};
-ghost use Rattle.journal_model.specs.Disk.{Image, Leaves};
+ghost use Rattle.journal_model.specs.declared.refusal.JournalError.TheVariants.{Aborted, Memory};
 ghost use Rattle.journal_model.specs.Record.{IsLegal};
 ghost use Rattle.journal_model.specs.Transaction.{entries};
-ghost use Rattle.block_device.specs.State.{EachMoment, MakesAtMostOneCall, one_more_fault};
 ghost use Rattle.journal_world.specs.declared.stage.Stage.TheVariants.{Idle};
 ghost use Rattle.journal_world.specs.Front.{held};
 ghost use Rattle.journal_world.specs.Front.FrontEvent.{StopHandle};
 ghost use Rattle.journal_world.specs.Sound.{IsPlain};
 ghost use Rattle.journal_world.specs.Journal.{IsFresh, batch_of};
-ghost use Rattle.journal_world.specs.Journal.Event.{FrontStep, ReadBlock, Seal};
-ghost use Rattle.log_epochs.specs.EngineWorld.Phase.{Shut};
-ghost use Rattle.log_epochs.specs.JournalPromise.{IsClosed};
+ghost use Rattle.journal_world.specs.Journal.Event.{FrontStep, Seal};
 ghost use Rattle.log_epochs.specs.JournalWorld.{Begins};
 ghost use Rattle.group_commit.specs.Begun.{world_of_new};
-ghost use Rattle.block_device.specs.Call.{MakesOneCall, OnlyReads};
-ghost use Rattle.log_engine.specs.Close.{IsAllReleased, MakesCloseCalls};
+ghost use Rattle.block_device.specs.Call.{MakesOneCall};
+ghost use Rattle.log_engine.specs.Close.{IsAllReleased};
 ghost use Rattle.log_engine.specs.Left.{commit_calls};
 ghost use Rattle.log_engine.specs.Rounds.{IsRoundDue};
 ghost use Rattle.journal_steps.specs.declared.turn.CheckTurn.TheVariants.{Idle as IdleCheck};
-ghost use Rattle.journal_steps.specs.Journal.{Agrees, CheckTurnDid, CheckTurnRefused, Does, FitsQuarter, HasRoomFor, IsDuringCheckTurn, IsDuringTurn, LeavesFewerRounds, NewestRefused, RegistersRead, OpensNow, OpensOver, ReadRefused, ReadsNewest, Requests, TurnDid, TurnRefused};
+ghost use Rattle.journal_steps.specs.Journal.{Agrees, CheckTurnDid, CheckTurnRefused, Does, FitsQuarter, HasRoomFor, IsDuringCheckTurn, IsDuringTurn, LeavesFewerRounds, OpensNow, Requests, TurnDid, TurnRefused};
 ghost use Rattle.journal_steps.specs.Legal.{KeepsLegal};
 ghost use Rattle.journal_steps.specs.Values.{together};
 ghost use Rattle.group_commit.specs.AllTurns.{IsReadyToSeal};
-ghost use Rattle.group_commit.specs.Calls.{CallsForClose, engine_in};
-ghost use Rattle.group_commit.specs.During.{IsDuringRounds, IsDuringTurns};
 ghost use Rattle.group_commit.specs.Stops.{StopsHandles, StopsOneHandle};
-ghost use Rattle.group_commit.specs.Close.{CloseDid, CloseRefused, EndsWith, SealRefused, closing, locked_journal};
+ghost use Rattle.group_commit.specs.Close.{SealRefused, locked_journal};
 ghost use Rattle.journal_front.specs.Front.{IsOpenHandle};
 ghost use Rattle.group_commit.specs.Values.{StatusIs};
+ghost use Rattle.journal_steps.specs.Verbs.{LeftByRead, Reads, ReadsNewest};
+ghost use Rattle.group_commit.specs.Closes.{IsClosedWell, IsNotClosed, LogIsClosed, LogIsNotClosed};
 
 use crate::close::finish;
 use crate::front_calls::FrontCalls;
@@ -183,17 +179,9 @@ impl<D: Device, R: Record> Journal<D, R> {
         into: &mut [u8],
     ) -> Result<(), JournalError>
         requires { length into.old ≡ (D.state self.old.device).shape.block_size }
-        ensures ok { OnOk result (D.honest self.new.device → Does D.state self.old (ReadBlock handle.old.number block into.new) self.new) }
-        // Reads need not be correct for this.
-        ensures registers { OnOk result (RegistersRead D.state self.old handle.old block into.new self.new) }
+        ensures reads { Reads D.state D.honest self.old handle.old block into.old into.new self.new result }
+        ensures left { LeftByRead D.state D.honest self.old self.new result }
         ensures legal { KeepsLegal D.honest self.new }
-        ensures err { IfErr result (ReadRefused D.state self.old handle.old block self.new) }
-        ensures untouched { IfErr result (λ e. into.new ≡ into.old) }
-        ensures device { OnlyReads D.state D.honest self.old.device self.new.device }
-        ensures opens { D.honest self.old.device → OpensNow self.new.journal (D.state self.new.device).disk }
-        ensures calls { MakesAtMostOneCall (D.state self.old.device) (D.state self.new.device) }
-        ensures no_fault { OnOk result ((D.state self.new.device).faults ≡ (D.state self.old.device).faults) }
-        ensures length { length into.new ≡ length into.old }
         ensures handle { handle.new ≡ handle.old }
     {
         steps::read(&mut self.front, &mut self.engine, handle, block, into)
@@ -208,14 +196,8 @@ impl<D: Device, R: Record> Journal<D, R> {
     /// Source: this project's own (a file system reads its cache of buffers, and asks no journal).
     pub fn read_newest(&mut self, block: BlockNo, into: &mut [u8]) -> Result<(), JournalError>
         requires { length into.old ≡ (D.state self.old.device).shape.block_size }
-        ensures ok { OnOk result (ReadsNewest D.state D.honest self.old block into.new self.new) }
-        ensures err { IfErr result (NewestRefused D.state self.old block self.new) }
-        ensures untouched { IfErr result (λ e. e ≢ DeviceFailed → into.new ≡ into.old) }
-        ensures device { OnlyReads D.state D.honest self.old.device self.new.device }
-        ensures opens { D.honest self.old.device → OpensNow self.new.journal (D.state self.new.device).disk }
-        ensures calls { MakesAtMostOneCall (D.state self.old.device) (D.state self.new.device) }
-        ensures no_fault { OnOk result ((D.state self.new.device).faults ≡ (D.state self.old.device).faults) }
-        ensures length { length into.new ≡ length into.old }
+        ensures reads { ReadsNewest D.state D.honest self.old block into.old into.new self.new result }
+        ensures left { LeftByRead D.state D.honest self.old self.new result }
     {
         steps::read_newest(&mut self.front, &mut self.engine, block, into)
     }
@@ -478,34 +460,9 @@ impl<D: Device, R: Record> Journal<D, R> {
     /// Source: fs/jbd2/journal.c by behaviour (`jbd2_journal_destroy`).
     pub fn close(self) -> Result<Parts<D, R>, (Parts<D, R>, JournalError)>
         requires { self.journal.front.open_handles ≡ [] }
-        ensures running { OnOk result (self.journal.engine.aborted ≡ false) }
-        ensures ok { IfOk result (λ parts. ((R.transactions parts.sealed) ≡ closing self.journal.front) × (parts.committed ≡ length (R.transactions parts.sealed))) }
-        ensures closed { IfOk result (λ parts. D.honest parts.device → (image : Image) → Leaves (D.state parts.device).disk image → IsClosed self.journal.engine.shape (R.transactions parts.sealed) image) }
-        ensures err { IfErr result (λ e. CloseRefused D.state self e.0.device (R.transactions e.0.sealed) e.0.committed e.1) }
-        ensures opens { MatchResult result
-            (λ parts. D.honest parts.device →
-            OpensOver self.journal.engine.shape (R.transactions parts.sealed) parts.committed (length (R.transactions parts.sealed)) (D.state parts.device).disk)
-            (λ e. D.honest e.0.device →
-            OpensOver self.journal.engine.shape (R.transactions e.0.sealed) e.0.committed (length (R.transactions e.0.sealed)) (D.state e.0.device).disk) }
-        ensures moves { MatchResult result
-            (λ parts. CloseDid self.journal (D.state self.device).disk (R.transactions parts.sealed) parts.committed (D.state parts.device).disk)
-            (λ e. EndsWith self.journal (D.state self.device).disk (R.transactions e.0.sealed) e.0.committed (D.state e.0.device).disk Shut) }
-        ensures no_fault { IfOk result (λ parts. (D.state parts.device).faults ≡ (D.state self.device).faults) }
-        ensures calls { MatchResult result
-            (λ parts. CallsForClose D.state self parts.device (R.transactions parts.sealed))
-            (λ e. CallsForClose D.state self e.0.device (R.transactions e.0.sealed)) }
-        ensures moments { MatchResult result
-            (λ parts. D.honest parts.device → EachMoment (IsDuringTurns self.journal (D.state self.device).disk) (D.state self.device) (D.state parts.device))
-            (λ e. D.honest e.0.device → EachMoment (IsDuringTurns self.journal (D.state self.device).disk) (D.state self.device) (D.state e.0.device)) }
-        ensures shape { MatchResult result
-            (λ parts. (D.state parts.device).shape ≡ (D.state self.device).shape)
-            (λ e. (D.state e.0.device).shape ≡ (D.state self.device).shape) }
-        ensures honest { MatchResult result
-            (λ parts. D.honest parts.device → D.honest self.device)
-            (λ e. D.honest e.0.device → D.honest self.device) }
-        ensures legal { MatchResult result
-            (λ parts. D.honest parts.device → IsLegal (R.transactions parts.sealed))
-            (λ e. D.honest e.0.device → IsLegal (R.transactions e.0.sealed)) }
+        ensures { MatchResult result
+            (λ parts. IsClosedWell D.state D.honest self parts.device (R.transactions parts.sealed) parts.committed)
+            (λ e. IsNotClosed D.state D.honest self e.0.device (R.transactions e.0.sealed) e.0.committed e.1) }
     {
         let mut journal = self;
         match finish(&mut journal) {
@@ -514,37 +471,13 @@ impl<D: Device, R: Record> Journal<D, R> {
         }
     }
 
+    /// Closes the log of a journal that is all sealed and released.
     fn close_log(self) -> Result<Parts<D, R>, (Parts<D, R>, JournalError)>
         requires running { self.journal.engine.aborted ≡ false }
         requires all { IsAllReleased self.journal.engine }
-        ensures ok { IfOk result (λ parts. ((R.transactions parts.sealed) ≡ self.journal.front.sealed) × (parts.committed ≡ length (R.transactions parts.sealed))) }
-        ensures closed { IfOk result (λ parts. D.honest parts.device → (image : Image) → Leaves (D.state parts.device).disk image → IsClosed self.journal.engine.shape (R.transactions parts.sealed) image) }
-        ensures err { IfErr result (λ e. (e.1 ≡ DeviceFailed) × ((R.transactions e.0.sealed) ≡ self.journal.front.sealed) × (e.0.committed ≡ self.journal.engine.committed)
-            × ((D.state e.0.device).faults ≡ one_more_fault (D.state self.device).faults)) }
-        ensures opens { MatchResult result
-            (λ parts. D.honest parts.device →
-            OpensOver self.journal.engine.shape (R.transactions parts.sealed) parts.committed (length (R.transactions parts.sealed)) (D.state parts.device).disk)
-            (λ e. D.honest e.0.device →
-            OpensOver self.journal.engine.shape (R.transactions e.0.sealed) e.0.committed (length (R.transactions e.0.sealed)) (D.state e.0.device).disk) }
-        ensures moves { MatchResult result
-            (λ parts. CloseDid self.journal (D.state self.device).disk (R.transactions parts.sealed) parts.committed (D.state parts.device).disk)
-            (λ e. EndsWith self.journal (D.state self.device).disk (R.transactions e.0.sealed) e.0.committed (D.state e.0.device).disk Shut) }
-        ensures no_fault { IfOk result (λ parts. (D.state parts.device).faults ≡ (D.state self.device).faults) }
-        ensures calls { MatchResult result
-            (λ parts. Agrees self.journal × MakesCloseCalls D.state (engine_in self) parts.device)
-            (λ e. Agrees self.journal × MakesCloseCalls D.state (engine_in self) e.0.device) }
-        ensures moments { MatchResult result
-            (λ parts. D.honest parts.device → EachMoment (IsDuringRounds self.journal (D.state self.device).disk) (D.state self.device) (D.state parts.device))
-            (λ e. D.honest e.0.device → EachMoment (IsDuringRounds self.journal (D.state self.device).disk) (D.state self.device) (D.state e.0.device)) }
-        ensures shape { MatchResult result
-            (λ parts. (D.state parts.device).shape ≡ (D.state self.device).shape)
-            (λ e. (D.state e.0.device).shape ≡ (D.state self.device).shape) }
-        ensures honest { MatchResult result
-            (λ parts. D.honest parts.device → D.honest self.device)
-            (λ e. D.honest e.0.device → D.honest self.device) }
-        ensures legal { MatchResult result
-            (λ parts. D.honest parts.device → IsLegal (R.transactions parts.sealed))
-            (λ e. D.honest e.0.device → IsLegal (R.transactions e.0.sealed)) }
+        ensures { MatchResult result
+            (λ parts. LogIsClosed D.state D.honest self parts.device (R.transactions parts.sealed) parts.committed)
+            (λ e. LogIsNotClosed D.state D.honest self e.0.device (R.transactions e.0.sealed) e.0.committed e.1) }
     {
         self.engine.recall_invariant();
         let Journal { front, engine } = self;

@@ -1,23 +1,20 @@
 -- How commands end.
-use Rattle.std.proofs.Common.{◌∙◌, ◌≡◌, ap, List, Option, inl, inr, subst, sym, ℕ}
+use Rattle.std.proofs.Common.{◌∙◌, ◌≡◌, List, Option, inl, inr, subst, sym, ℕ}
 use Rattle.std.proofs.lemmas.Bool.{false≢true}
-use Rattle.std.specs.Prelude.{◌≢◌, ⊤, Bool, IfOk, IfSome, IsOk, IsSome, None, Some, Result, Err, Ok}
-use Rattle.jbench_words.specs.declared.fault.Status.{Status}
-use Rattle.jbench_words.specs.declared.fault.Status.TheVariants.{Fine, Refused, VerdictFalse}
+use Rattle.std.specs.Prelude.{◌≢◌, ⊤, IfOk, IfSome, IsOk, IsSome, None, Some, Result, Err, Ok}
+use Rattle.jbench_words.specs.declared.fault.CommandStatus.{CommandStatus}
+use Rattle.jbench_words.specs.declared.fault.CommandStatus.TheVariants.{Fine, Refused, VerdictFalse}
 use Rattle.jbench_commands.specs.Runs.{HasTakenEither, IsGoodOf}
-use Rattle.script_sweep.specs.declared.counts.NotRight.{NotRight}
-use Rattle.script_sweep.specs.Sweeping.{none_wrong, not_right_of}
-use Rattle.jbench_commands.specs.Sweeps.{HasSwept, IsSweptTo}
 use Rattle.jbench_commands.specs.declared.check.Good.{Good}
 use Rattle.jbench_commands.specs.declared.check.Good.TheVariants.{Operations, Clients}
 
 -- only a sweep and clients in threads may end with 2
-abbrev IsWrong : Status → Type 0
+abbrev IsWrong : CommandStatus → Type 0
 IsWrong Fine = ⊥
 IsWrong Refused = ⊥
 IsWrong VerdictFalse = ⊤
 
-pub never-wrong : {E : Type 0} (end : Result Status E) → IfOk end (λ status. status ≢ Fine → status ≡ Refused) → IfOk end (λ status. status ≡ VerdictFalse → ⊥)
+pub never-wrong : {E : Type 0} (end : Result CommandStatus E) → IfOk end (λ status. status ≢ Fine → status ≡ Refused) → IfOk end (λ status. status ≡ VerdictFalse → ⊥)
 never-wrong (Err e) other = tt
 never-wrong (Ok status) other = λ wrong.
     let refused : status ≡ Refused = other (λ (fine : status ≡ Fine). subst IsWrong (sym wrong ∙ fine) tt) in
@@ -37,11 +34,3 @@ some-left P None is p = absurd (false≢true is)
 pub ok-both : {A E C : Type 0} (P Q : A → Type 0) (done : Result A E) → IsOk done → IfOk done P → (C → IfOk done Q) → (left : A) × P left × (C → Q left)
 ok-both P Q (Ok left) is p q = (left, p, q)
 ok-both P Q (Err e) is p q = absurd (false≢true is)
-
--- a sweep that counted nothing ends with 0
-pub ends-swept : (text : List ℕ) (fails : Bool) (count : ℕ) (status : Status) → HasSwept text fails count → count ≡ 0 → (count ≡ 0 → status ≡ Fine) → IsSweptTo text fails status
-ends-swept text fails count status swept none fine = record { fine = λ now. subst (HasSwept text fails) none swept; other = λ not. absurd (not (fine none)) }
-
--- a sweep counts nothing if each opening was right
-pub none-counted : (n : NotRight) (count : ℕ) → count ≡ not_right_of n → n ≡ none_wrong → count ≡ 0
-none-counted n count is none = is ∙ ap not_right_of none

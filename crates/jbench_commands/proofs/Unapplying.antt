@@ -1,6 +1,6 @@
 -- What a refused apply leaves.
 use Rattle.std.proofs.Common.{◌∙◌, ap, refl, subst, sym}
-use Rattle.std.specs.Prelude.{◌≡◌, ℕ, List, ◌++◌}
+use Rattle.std.specs.Prelude.{ℕ, List, ◌++◌}
 use Rattle.journal_model.specs.Disk.{Disk, Shape}
 use Rattle.block_device.specs.State.{DeviceState, EachMoment, Stays}
 use Rattle.block_device.proofs.Moments.{each-joins, each-stays}

@@ -1,5 +1,5 @@
 -- What a command with exit status 0 did, by its words.
-use Rattle.std.specs.Prelude.{◌≡◌, ⊤, ℕ, Bool, true, false, List, Option, string_bytes}
+use Rattle.std.specs.Prelude.{◌≡◌, ⊤, ℕ, Bool, true, false, List, Option, is_some, string_bytes}
 use Rattle.journal_model.specs.Transaction.{History}
 use Rattle.block_device.specs.State.{DeviceState}
 use Rattle.file_device.specs.Files.{FileContents, FileState, HasAgreed, file_state}
@@ -12,9 +12,9 @@ use Rattle.jbench_files.specs.Apart.{AreApart}
 use Rattle.jbench_files.specs.Cleared.{cleared, log_cleared}
 use Rattle.jbench_files.specs.Over.{IsOver}
 use Rattle.jbench_files.specs.declared.regular.RegularFile.{RegularFile}
-use Rattle.jbench_files.specs.declared.text.Text.{Text}
+use Rattle.jbench_files.specs.declared.text.ScriptText.{ScriptText}
 use Rattle.jbench_views.specs.Looked.{HasDumped, HasLeft}
-use Rattle.jbench_logs.specs.Done.{HasUpgraded, IsFoundOut, IsMade, IsRecovered, IsRecoveredBefore}
+use Rattle.jbench_logs.specs.Done.{HasUpgraded, IsMade, Recovers}
 use Rattle.jbench_commands.specs.Applying.{IsDoneTo, after_told, ending_told, lines_told}
 use Rattle.jbench_commands.specs.Runs.{HasRun, HasTakenEither, runs_told}
 use Rattle.jbench_commands.specs.Sweeps.{HasSwept}
@@ -51,24 +51,33 @@ pub record IsDoneOver (first : FileContents) (Over : FileState → Type 0) (Did 
 abbrev pub IsOverAny : FileState → Type 0
 IsOverAny device = ⊤
 
--- what `recover` did, by its options
-abbrev pub Recovers : (dry_run before_damage : Bool) → DeviceState → DeviceState → Type 0
-Recovers true before_damage old new = IsFoundOut before_damage old
-Recovers false true old new = IsRecoveredBefore old new
-Recovers false false old new = IsRecovered old new
+-- the device has its home area on a block device
+pub record IsOverHomeDevice (device : FileState) : Type 0 where
+  pub log : RegularFile
+  pub home : RegularFile
+  pub apart : AreApart log home
+  pub over : IsOver log.file home.file device
+  pub home_is_device : home.identity.is_device ≡ true
+
+-- a log was made as the words tell
+abbrev pub IsMadeTold : FormatWords → DeviceState → DeviceState → Type 0
+IsMadeTold words old new = IsMade words.measures.log_blocks words.measures.uuid words.measures.wide old new
+
+-- so it was made on this device with this first content, if its reads were correct
+pub record IsMadeOn (first : FileContents) (words : FormatWords) (old : FileState) : Type 0 where
+  pub new : FileState
+  pub did : HasAgreed first new → IsMadeTold words (file_state first old) (file_state first new)
 
 -- what `format` did to two files, which had to be new if the words ask for it: both were cleared, or only the log if home is kept; then a
--- log was made
-abbrev pub to_format : (keep_home : Bool) → FileContents → FileContents
-to_format true first = log_cleared first
-to_format false first = cleared first
-
-abbrev pub IsFormatDone : FileContents → FormatWords → Type 0
-IsFormatDone first words =
-    IsDoneOver (to_format words.keep_home first) (over_told words.has_to_be_new words.keep_home) (λ old new. IsMade words.measures.log_blocks words.measures.uuid words.measures.wide old new)
+-- log was made. A home area on a block device was also kept where the words ask neither for a new one nor for zeros
+pub data IsFormatDone (first : FileContents) (words : FormatWords) : Type 0 where
+  Both : words.keep_home ≡ false → IsDoneOver (cleared first) (over_told words.has_to_be_new false) (IsMadeTold words) → IsFormatDone first words
+  Kept : words.keep_home ≡ true → IsDoneOver (log_cleared first) (over_told words.has_to_be_new true) (IsMadeTold words) → IsFormatDone first words
+  KeptDevice : words.zero_home ≡ false → words.has_to_be_new ≡ false → IsDoneOver (log_cleared first) IsOverHomeDevice (IsMadeTold words) →
+      IsFormatDone first words
 
 -- this was done with the bytes of a text that came from this path
-abbrev pub IsOfText : Text → (path : List ℕ) → (Did : List ℕ → Type 0) → Type 0
+abbrev pub IsOfText : ScriptText → (path : List ℕ) → (Did : List ℕ → Type 0) → Type 0
 IsOfText text path Did = (string_bytes text.path ≡ path) × Did text.bytes.items
 
 -- what `apply` did over two files: it applied the operations of a script's text, and closed the journal unless it had to stay
@@ -82,8 +91,8 @@ pub record IsAppliedOver (first : FileContents) (words : ApplyWords) (contents :
   pub closed : words.stay ≡ false → HasAgreed first left → IsLeftClosed (file_state first left) sealed
 
 -- What the command did, over log files with this first content, an output with these first contents, and with the text that it read.
-abbrev pub HasObeyed : (first : FileContents) → (text : Text) → (contents : Option (List ℕ)) → OneThreadWords → Type 0
-HasObeyed first text contents (Run words) = IsOfText text words.script.now (λ bytes. HasRun (runs_told words.image) bytes words true)
+abbrev pub HasObeyed : (first : FileContents) → (text : ScriptText) → (contents : Option (List ℕ)) → OneThreadWords → Type 0
+HasObeyed first text contents (Run words) = IsOfText text words.script.now (λ bytes. HasRun (runs_told (is_some words.image)) bytes words true)
 HasObeyed first text contents (Sweep words) = IsOfText text words.script.now (λ bytes. HasSwept bytes words.fails 0)
 HasObeyed first text contents (Check path) = IsOfText text path.now HasTakenEither
 HasObeyed first text contents (Format words) = IsFormatDone first words

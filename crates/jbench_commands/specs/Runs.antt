@@ -1,5 +1,5 @@
 -- The script of a command, and what `run` did with it.
-use Rattle.std.specs.Prelude.{◌≡◌, ◌⊎◌, ℕ, ◌≤◌, Bool, List, Option, Some, None}
+use Rattle.std.specs.Prelude.{◌≡◌, ◌⊎◌, ℕ, ◌≤◌, Bool, true, false, List}
 use Rattle.block_device.specs.State.{DeviceState}
 use Rattle.journal_script.specs.Clients.{CanBeServed, IsClientScriptOf}
 use Rattle.journal_script.specs.Measures.{AreLimited}
@@ -63,9 +63,9 @@ pub record IsRunWithImage (script : Script) (stops : Stops) (right : Bool) : Typ
   pub small : script.measures.home_blocks ≤ 1048576
 
 -- a run copies its image if one is given, or the words name files for it
-abbrev pub runs_told : {A : Type 0} → Option A → Script → Stops → Bool → Type 0
-runs_told None script stops right = IsRunOf script stops right
-runs_told (Some image) script stops right = IsRunWithImage script stops right
+abbrev pub runs_told : (copied : Bool) → Script → Stops → Bool → Type 0
+runs_told false script stops right = IsRunOf script stops right
+runs_told true script stops right = IsRunWithImage script stops right
 
 -- the text's script was accepted and run
 pub record HasRun (Runs : Script → Stops → Bool → Type 0) (text : List ℕ) (words : RunWords) (right : Bool) : Type 0 where

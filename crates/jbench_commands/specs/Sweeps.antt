@@ -1,7 +1,7 @@
 -- What the command `sweep` did, and how it ends.
 use Rattle.std.specs.Prelude.{◌≡◌, ◌≢◌, ℕ, ◌+◌, Bool, true, false, List}
-use Rattle.jbench_words.specs.declared.fault.Status.{Status}
-use Rattle.jbench_words.specs.declared.fault.Status.TheVariants.{Fine, Refused}
+use Rattle.jbench_words.specs.declared.fault.CommandStatus.{CommandStatus}
+use Rattle.jbench_words.specs.declared.fault.CommandStatus.TheVariants.{Fine, Refused}
 use Rattle.journal_script.specs.declared.script.Script.{Script}
 use Rattle.script_sweep.specs.declared.counts.Counts.{Counts}
 use Rattle.script_sweep.specs.declared.counts.FailureCounts.{FailureCounts}
@@ -31,6 +31,6 @@ pub record HasSwept (text : List ℕ) (fails : Bool) (count : ℕ) : Type 0 wher
   pub more : fails ≡ true → (of_failures : ℕ) × HasSweptFailures script of_failures × (count ≡ capped (of_stops + of_failures))
 
 -- the command succeeded if it swept and each opening was right; else it was refused
-pub record IsSweptTo (text : List ℕ) (fails : Bool) (status : Status) : Type 0 where
+pub record IsSweptTo (text : List ℕ) (fails : Bool) (status : CommandStatus) : Type 0 where
   pub fine : status ≡ Fine → HasSwept text fails 0
   pub other : status ≢ Fine → status ≡ Refused

@@ -52,12 +52,37 @@ pub enum Unapplied<D> {
 /// Opens a device's log and prints the report, then applies a script's operations and prints a line for each. Then it closes the journal,
 /// unless the words ask it to stay. The first refused operation is the last, unless the words ask to go on. If they ask to make room, a
 /// checkpoint round precedes an operation that the ring has no room for. Keys of the script that describe the device must agree with it.
-/// After a refusal a line on `err` says why. Committed transactions are then in the log or at home, and nothing of others is.
+/// After a refusal a line on `err` says why. Committed transactions are then in the log or at home, and nothing of others is. Each line is
+/// an object if the words ask for it.
 ///
 /// # Errors
 ///
 /// The output could not be written.
 pub fn apply<D: Device + Drop, W: Write + Drop, E: Write + Drop>(
+    alloc: Global,
+    words: &ApplyWords<'_>,
+    device: D,
+    script: &[u8],
+    out: W,
+    err: E,
+) -> io::Result<Result<Performed<D>, Unapplied<D>>>
+    ensures closed { words.now.stay ≡ false → IfOk result (λ done. IfOk done (λ left. D.honest left.device →
+        IsLeftClosed (D.state left.device) left.sealed.items)) }
+    ensures done { IfOk result (λ done. IfOk done (λ left.
+        IsDoneTo D.state D.honest device script.now (after_told words.now.keep_going words.now.make_room) (ending_told words.now.stay) left.device left.sealed.items left.acknowledged
+        (lines_told words.now.json (W.contents out)))) }
+    ensures left { IfOk result (λ done. IfErr done (IsUnapplied D.state D.honest device script.now (after_told words.now.keep_going words.now.make_room) (ending_told words.now.stay))) }
+{
+    if words.json {
+        let objects = Objects::new(alloc, out)?;
+        apply_lines(alloc, words, device, script, objects, err)
+    } else {
+        apply_lines(alloc, words, device, script, out, err)
+    }
+}
+
+/// `apply`, with lines.
+fn apply_lines<D: Device + Drop, W: Write + Drop, E: Write + Drop>(
     alloc: Global,
     words: &ApplyWords<'_>,
     device: D,
@@ -101,36 +126,8 @@ pub fn apply<D: Device + Drop, W: Write + Drop, E: Write + Drop>(
     }
 }
 
-/// Applies a script as `apply` does. Prints an object for each line if the words ask for it.
-///
-/// # Errors
-///
-/// The output could not be written.
-pub fn apply_as_told<D: Device + Drop, W: Write + Drop, E: Write + Drop>(
-    alloc: Global,
-    words: &ApplyWords<'_>,
-    device: D,
-    script: &[u8],
-    out: W,
-    err: E,
-) -> io::Result<Result<Performed<D>, Unapplied<D>>>
-    ensures closed { words.now.stay ≡ false → IfOk result (λ done. IfOk done (λ left. D.honest left.device →
-        IsLeftClosed (D.state left.device) left.sealed.items)) }
-    ensures done { IfOk result (λ done. IfOk done (λ left.
-        IsDoneTo D.state D.honest device script.now (after_told words.now.keep_going words.now.make_room) (ending_told words.now.stay) left.device left.sealed.items left.acknowledged
-        (lines_told words.now.json (W.contents out)))) }
-    ensures left { IfOk result (λ done. IfErr done (IsUnapplied D.state D.honest device script.now (after_told words.now.keep_going words.now.make_room) (ending_told words.now.stay))) }
-{
-    if words.json {
-        let objects = Objects::new(alloc, out)?;
-        apply(alloc, words, device, script, objects, err)
-    } else {
-        apply(alloc, words, device, script, out, err)
-    }
-}
-
 /// The device that an apply leaves, in either case.
-pub fn device_of<D>(done: &Result<Performed<D>, Unapplied<D>>) -> &D {
+pub(crate) fn device_of<D>(done: &Result<Performed<D>, Unapplied<D>>) -> &D {
     match done {
         Ok(left) => &left.device,
         Err(Unapplied::Unopened(device)) | Err(Unapplied::Unbegun(device)) => device,
@@ -298,7 +295,7 @@ fn read_super<D: Device>(alloc: Global, device: &mut D) -> Result<Super, Journal
 /// # Errors
 ///
 /// `Memory`: there was none for the journal. Nothing was done, and the opened log comes back.
-pub fn apply_operations<D: Device + Drop, H: HomeFact, W: Write>(
+fn apply_operations<D: Device + Drop, H: HomeFact, W: Write>(
     alloc: Global,
     opened: Opened<D>,
     operations: &[Operation],

@@ -1,9 +1,9 @@
 //! The command `check`: says whether a script of operations or clients is good.
 ghost use Rattle.std.specs.Prelude.{◌≡◌, ◌≢◌, IfOk, IsOk};
-ghost use Rattle.jbench_words.specs.declared.fault.Status.TheVariants.{Fine, Refused};
+ghost use Rattle.jbench_words.specs.declared.fault.CommandStatus.TheVariants.{Fine, Refused};
 ghost use Rattle.jbench_commands.specs.Runs.{HasTakenEither, IsGoodOf};
 
-use jbench_words::fault::{self, Fault, Status};
+use jbench_words::fault::{self, CommandStatus, Fault};
 use journal_script::{BadScript, ClientScript, Script, ScriptError};
 use std::alloc::Global;
 use std::io;
@@ -31,7 +31,7 @@ pub fn check<W: Write + Drop, E: Write + Drop>(
     text: &[u8],
     out: W,
     err: E,
-) -> io::Result<Status>
+) -> io::Result<CommandStatus>
     ensures good { IfOk result (λ status. status ≡ Fine → HasTakenEither text.now) }
     ensures other { IfOk result (λ status. status ≢ Fine → status ≡ Refused) }
 {
@@ -78,7 +78,7 @@ fn print<W: Write + Drop, E: Write>(
     read: Result<Good, ScriptError>,
     out: W,
     err: &mut E,
-) -> io::Result<Status>
+) -> io::Result<CommandStatus>
     ensures good { IfOk result (λ status. status ≡ Fine → IsOk read) }
     ensures taken { IfOk result (λ status. IsOk read → status ≡ Fine) }
     ensures other { IfOk result (λ status. status ≢ Fine → status ≡ Refused) }
@@ -87,13 +87,13 @@ fn print<W: Write + Drop, E: Write>(
         Ok(good) => say_good(&good, out),
         Err(ScriptError::BadScript(bad)) => {
             writeln!(err, "jbench: bad script: {bad}")?;
-            Ok(Status::Refused)
+            Ok(CommandStatus::Refused)
         }
         Err(ScriptError::Memory) => fault::refuse(err, "", &Fault::from(ScriptError::Memory)),
     }
 }
 
-fn say_good<W: Write + Drop>(good: &Good, out: W) -> io::Result<Status>
+fn say_good<W: Write + Drop>(good: &Good, out: W) -> io::Result<CommandStatus>
     ensures { IfOk result (λ status. status ≡ Fine) }
 {
     let mut out = out;
@@ -109,5 +109,5 @@ fn say_good<W: Write + Drop>(good: &Good, out: W) -> io::Result<Status>
             script.waits()
         )?,
     }
-    Ok(Status::Fine)
+    Ok(CommandStatus::Fine)
 }

@@ -1,30 +1,30 @@
-//! Opens the files that the words name, and runs the command on them. What it did with a script's text is said of a `Text`, which has it
-//! afterwards.
-ghost use Rattle.std.specs.Prelude.{◌≡◌, ◌≢◌, ◌↔◌, Bool, IfOk, IsOk, false, true};
-ghost use Rattle.jbench_words.specs.declared.fault.Status.TheVariants.{Fine, Refused};
+//! Opens the files that the words name, and runs the command on them. What it did with a script's text is said of a `ScriptText`, which has
+//! it afterwards.
+ghost use Rattle.std.specs.Prelude.{◌≡◌, ◌≢◌, ◌↔◌, Bool, IfOk, IsOk, false, is_some, true};
+ghost use Rattle.jbench_words.specs.declared.fault.CommandStatus.TheVariants.{Fine, Refused};
 ghost use Rattle.jbench_files.specs.Cleared.{cleared, log_cleared};
 ghost use Rattle.jbench_files.specs.Over.{IsOver};
-ghost use Rattle.jbench_logs.specs.Done.{HasUpgraded, IsMade};
+ghost use Rattle.jbench_logs.specs.Done.{HasUpgraded, Recovers};
 ghost use Rattle.jbench_views.specs.Looked.{HasDumped, HasLeft};
-ghost use Rattle.jbench_commands.specs.Obeying.{HasObeyed, IsAppliedOver, IsDoneOver, IsFormatDone, IsOfText, IsOverAny, IsOverTwo, Recovers, over_told};
+ghost use Rattle.jbench_commands.specs.Obeying.{HasObeyed, IsAppliedOver, IsDoneOver, IsFormatDone, IsMadeOn, IsMadeTold, IsOfText, IsOverAny, IsOverHomeDevice, IsOverTwo, over_told};
 ghost use Rattle.jbench_commands.specs.Runs.{HasRun, HasTakenEither, runs_told};
 ghost use Rattle.jbench_commands.specs.Sweeps.{HasSwept};
 
 use crate::image::ImageFiles;
-use crate::progress::Progress;
+use crate::progress::ProgressLine;
 use crate::{apply, check, run, sweep};
 use file_device::{Contents, FileDevice};
 use jbench_files::{
-    Cleared, KeptPair, LogCleared, LogPair, Text, TextFile, Unmade, Unopened, device_before,
-    device_of, device_to_read, home_bytes, make_device, make_log, make_log_device, make_pair,
-    open_log, open_log_to_write, open_or_make_log, open_or_make_pair, open_pair_to_read_within,
-    open_pair_within, open_script, open_text, say_failure,
+    Cleared, KeptHome, KeptPair, LogCleared, LogPair, ScriptText, TextFile, Unmade, Unopened,
+    device_before, device_of, device_to_read, home_bytes, make_device, make_log_device,
+    names_device, open_log, open_log_to_write, open_or_make_image, open_or_make_log,
+    open_or_make_pair, open_pair_within, open_script, open_text, say_failure, sectors_at,
 };
 use jbench_help::{Shell, write_completions, write_manual};
 use jbench_logs::overwriting::may_overwrite;
 use jbench_logs::{logs, recovering};
 use jbench_views::{cat, dump, show};
-use jbench_words::fault::{Status, refuse, refuse_file};
+use jbench_words::fault::{CommandStatus, refuse, refuse_file};
 use jbench_words::watch::Watch;
 use jbench_words::words::{
     ApplyWords, CatWords, DumpWords, FormatWords, LogPaths, OneThreadWords, RecoverWords, RunWords,
@@ -43,11 +43,11 @@ use std::io::{ErrorKind, Write};
 pub fn obey<C: Contents, W: Write + Drop, E: Write + Drop>(
     rt: &HostRuntime,
     contents: C,
-    text: &mut Text,
+    text: &mut ScriptText,
     words: &OneThreadWords<'_>,
     out: W,
     err: E,
-) -> io::Result<Status>
+) -> io::Result<CommandStatus>
     ensures done { IfOk result (λ status. status ≡ Fine → HasObeyed C.contents text.new (W.contents out) words.now) }
     ensures other { IfOk result (λ status. status ≢ Fine → status ≡ Refused) }
 {
@@ -67,95 +67,92 @@ pub fn obey<C: Contents, W: Write + Drop, E: Write + Drop>(
     }
 }
 
-fn print_completions<W: Write + Drop>(shell: Shell, out: W) -> io::Result<Status>
+fn print_completions<W: Write + Drop>(shell: Shell, out: W) -> io::Result<CommandStatus>
     ensures other { IfOk result (λ status. status ≢ Fine → status ≡ Refused) }
 {
     let mut out = out;
     write_completions(shell, &mut out)?;
-    Ok(Status::Fine)
+    Ok(CommandStatus::Fine)
 }
 
-fn print_manual<W: Write + Drop>(out: W) -> io::Result<Status>
+fn print_manual<W: Write + Drop>(out: W) -> io::Result<CommandStatus>
     ensures other { IfOk result (λ status. status ≢ Fine → status ≡ Refused) }
 {
     let mut out = out;
     write_manual(&mut out)?;
-    Ok(Status::Fine)
+    Ok(CommandStatus::Fine)
 }
 
 /// Runs the script in a file. The files of an image are opened before it is read.
 fn run_file<W: Write + Drop, E: Write + Drop>(
     rt: &HostRuntime,
-    text: &mut Text,
+    text: &mut ScriptText,
     words: &RunWords<'_>,
     out: W,
     err: E,
-) -> io::Result<Status>
-    ensures done { IfOk result (λ status. status ≡ Fine → IsOfText text.new words.now.script.now (λ bytes. HasRun (runs_told words.now.image) bytes words.now true)) }
+) -> io::Result<CommandStatus>
+    ensures done { IfOk result (λ status. status ≡ Fine → IsOfText text.new words.now.script.now (λ bytes. HasRun (runs_told (is_some words.now.image)) bytes words.now true)) }
     ensures other { IfOk result (λ status. status ≢ Fine → status ≡ Refused) }
 {
-    let mut err = err;
+    let (alloc, mut err) = (rt.alloc(), err);
     let script = match open_text(rt, words.script) {
         Ok(script) => script,
         Err(e) => return refuse_file(&mut err, words.script, e),
     };
-    let Some(image) = words.image else {
-        return run_opened(rt.alloc(), text, words, script, None, out, err);
+    let image = match open_image(rt, words, &script) {
+        Ok(image) => image,
+        Err(unopened) => return unopened.refuse(&mut err),
     };
-    match open_or_make_pair(rt, image, Some(script.file())) {
-        Ok(files) => {
-            let alloc = rt.alloc();
-            let image = ImageFiles { alloc, files };
-            run_opened(alloc, text, words, script, Some(image), out, err)
-        }
-        Err(unopened) => unopened.refuse(&mut err),
-    }
-}
-
-/// Runs the script in an open file, with the files of its image, if it has one.
-fn run_opened<W: Write + Drop, E: Write + Drop>(
-    alloc: Global,
-    text: &mut Text,
-    words: &RunWords<'_>,
-    script: TextFile<'_>,
-    image: Option<ImageFiles>,
-    out: W,
-    err: E,
-) -> io::Result<Status>
-    ensures done { IfOk result (λ status. status ≡ Fine → IsOfText text.new script.entry.path.now (λ bytes. HasRun (runs_told image) bytes words.now true)) }
-    ensures other { IfOk result (λ status. status ≢ Fine → status ≡ Refused) }
-{
-    let mut err = err;
     match text.read(alloc, script) {
         Ok(()) => run::run(alloc, words, text.bytes(), image, out, err),
         Err(fault) => refuse(&mut err, words.script, &fault),
     }
 }
 
+/// Opens the files of a run's image, if the words name some. They are not the script's.
+fn open_image<'a>(
+    rt: &HostRuntime,
+    words: &RunWords<'a>,
+    script: &TextFile<'_>,
+) -> Result<Option<ImageFiles>, Unopened<'a>>
+    ensures { IfOk result (λ image. is_some image ≡ is_some words.now.image) }
+{
+    match words.image {
+        Some(image) => match open_or_make_image(rt, image, script.file()) {
+            Ok(files) => Ok(Some(ImageFiles {
+                alloc: rt.alloc(),
+                files,
+            })),
+            Err(unopened) => Err(unopened),
+        },
+        None => Ok(None),
+    }
+}
+
 fn sweep_file<W: Write + Drop, E: Write + Drop>(
     rt: &HostRuntime,
-    text: &mut Text,
+    text: &mut ScriptText,
     words: &SweepWords<'_>,
     out: W,
     err: E,
-) -> io::Result<Status>
+) -> io::Result<CommandStatus>
     ensures done { IfOk result (λ status. status ≡ Fine → IsOfText text.new words.now.script.now (λ bytes. HasSwept bytes words.now.fails 0)) }
     ensures other { IfOk result (λ status. status ≢ Fine → status ≡ Refused) }
 {
     let (alloc, mut err) = (rt.alloc(), err);
     match text.read_at(rt, alloc, words.script) {
-        Ok(()) => sweep::sweep(alloc, words, text.bytes(), Progress::new(rt), out, err),
+        Ok(()) => sweep::sweep(alloc, words, text.bytes(), ProgressLine::new(rt), out, err),
         Err(fault) => refuse(&mut err, words.script, &fault),
     }
 }
 
 fn check_file<W: Write + Drop, E: Write + Drop>(
     rt: &HostRuntime,
-    text: &mut Text,
+    text: &mut ScriptText,
     path: &str,
     out: W,
     err: E,
-) -> io::Result<Status>
+) -> io::Result<CommandStatus>
     ensures done { IfOk result (λ status. status ≡ Fine → IsOfText text.new path.now HasTakenEither) }
     ensures other { IfOk result (λ status. status ≢ Fine → status ≡ Refused) }
 {
@@ -173,15 +170,25 @@ fn format_files<C: Contents, W: Write + Drop, E: Write + Drop>(
     words: &FormatWords<'_>,
     out: W,
     err: E,
-) -> io::Result<Status>
+) -> io::Result<CommandStatus>
     ensures done { IfOk result (λ status. status ≡ Fine → IsFormatDone C.contents words.now) }
     ensures other { IfOk result (λ status. status ≢ Fine → status ≡ Refused) }
 {
     if words.keep_home {
         format_log(rt, contents, words, out, err)
+    } else if stays_as_device(rt, words) {
+        format_beside_device(rt, contents, words, out, err)
     } else {
         format_both(rt, contents, words, out, err)
     }
+}
+
+/// Whether home is a block device that no words ask to be made or to be filled with zeros.
+fn stays_as_device(rt: &HostRuntime, words: &FormatWords<'_>) -> bool
+    ensures zeros { result ≡ true → words.now.zero_home ≡ false }
+    ensures new { result ≡ true → words.now.has_to_be_new ≡ false }
+{
+    !words.has_to_be_new && !words.zero_home && names_device(rt, words.paths.home)
 }
 
 /// Makes an empty log in two files, and clears both.
@@ -191,17 +198,19 @@ fn format_both<C: Contents, W: Write + Drop, E: Write + Drop>(
     words: &FormatWords<'_>,
     out: W,
     err: E,
-) -> io::Result<Status>
-    ensures done { IfOk result (λ status. status ≡ Fine → IsDoneOver (cleared C.contents) (over_told words.now.has_to_be_new false) (λ old new. IsMade words.now.measures.log_blocks words.now.measures.uuid words.now.measures.wide old new)) }
+) -> io::Result<CommandStatus>
+    ensures done { IfOk result (λ status. status ≡ Fine → IsDoneOver (cleared C.contents) (over_told words.now.has_to_be_new false) (IsMadeTold words.now)) }
     ensures other { IfOk result (λ status. status ≢ Fine → status ≡ Refused) }
 {
-    let mut err = err;
-    let files = match open_both_told(rt, words) {
+    let (mut err, paths) = (err, words.paths);
+    let files = match open_or_make_pair(rt, paths, words.has_to_be_new, words.zero_home) {
         Ok(files) => files,
         Err(unopened) => return unopened.refuse(&mut err),
     };
-    if !may_format(rt.alloc(), words, &files, &mut err)? {
-        return Ok(Status::Refused);
+    if keeps_foreign(words, true, &files, &mut err)?
+        || !may_format(rt.alloc(), words, &files, &mut err)?
+    {
+        return Ok(CommandStatus::Refused);
     }
     match make_both(rt, contents, words, files) {
         Ok(device) => format_device(words, device, out, err),
@@ -216,21 +225,61 @@ fn format_log<C: Contents, W: Write + Drop, E: Write + Drop>(
     words: &FormatWords<'_>,
     out: W,
     err: E,
-) -> io::Result<Status>
-    ensures done { IfOk result (λ status. status ≡ Fine → IsDoneOver (log_cleared C.contents) (over_told words.now.has_to_be_new true) (λ old new. IsMade words.now.measures.log_blocks words.now.measures.uuid words.now.measures.wide old new)) }
+) -> io::Result<CommandStatus>
+    ensures done { IfOk result (λ status. status ≡ Fine → IsDoneOver (log_cleared C.contents) (over_told words.now.has_to_be_new true) (IsMadeTold words.now)) }
     ensures other { IfOk result (λ status. status ≢ Fine → status ≡ Refused) }
 {
     let mut err = err;
-    let files = match open_log_told(rt, words) {
+    let home = home_kept(words, false);
+    let files = match open_or_make_log(rt, words.paths, home, words.has_to_be_new) {
         Ok(files) => files,
         Err(unopened) => return unopened.refuse(&mut err),
     };
-    if !may_format(rt.alloc(), words, files.pair(), &mut err)? {
-        return Ok(Status::Refused);
+    if keeps_foreign(words, false, files.pair(), &mut err)?
+        || !may_format(rt.alloc(), words, files.pair(), &mut err)?
+    {
+        return Ok(CommandStatus::Refused);
     }
     match make_beside_home(rt, contents, words, files) {
         Ok(device) => format_device(words, device, out, err),
         Err(unmade) => unmade.refuse(words.paths, &mut err),
+    }
+}
+
+/// Makes an empty log in a file, and keeps home, a block device, as it is.
+fn format_beside_device<C: Contents, W: Write + Drop, E: Write + Drop>(
+    rt: &HostRuntime,
+    contents: C,
+    words: &FormatWords<'_>,
+    out: W,
+    err: E,
+) -> io::Result<CommandStatus>
+    ensures done { IfOk result (λ status. status ≡ Fine → IsDoneOver (log_cleared C.contents) IsOverHomeDevice (IsMadeTold words.now)) }
+    ensures other { IfOk result (λ status. status ≢ Fine → status ≡ Refused) }
+{
+    let mut err = err;
+    let files = match open_or_make_log(rt, words.paths, home_kept(words, true), false) {
+        Ok(files) => files,
+        Err(unopened) => return unopened.refuse(&mut err),
+    };
+    if keeps_foreign(words, true, files.pair(), &mut err)?
+        || !may_format(rt.alloc(), words, files.pair(), &mut err)?
+    {
+        return Ok(CommandStatus::Refused);
+    }
+    match make_beside_home(rt, contents, words, files) {
+        Ok(device) => format_device(words, device, out, err),
+        Err(unmade) => unmade.refuse(words.paths, &mut err),
+    }
+}
+
+/// What is wanted of a home area that is kept.
+fn home_kept(words: &FormatWords<'_>, is_device: bool) -> KeptHome
+    ensures { result.is_device ≡ is_device }
+{
+    KeptHome {
+        bytes: home_bytes(&words.measures),
+        is_device,
     }
 }
 
@@ -243,7 +292,7 @@ fn make_both<C: Contents>(
 ) -> Result<FileDevice<Cleared<C>>, Unmade>
     ensures { IfOk result (IsOver files.log.file.file files.home.file.file) }
 {
-    let mut progress = Progress::new(rt);
+    let mut progress = ProgressLine::new(rt);
     let made = make_device(rt.alloc(), contents, &words.measures, files, &mut progress);
     progress.ends();
     made
@@ -258,33 +307,26 @@ fn make_beside_home<C: Contents>(
 ) -> Result<FileDevice<LogCleared<C>>, Unmade>
     ensures { IfOk result (IsOver files.pair.log.file.file files.pair.home.file.file) }
 {
-    let mut progress = Progress::new(rt);
+    let mut progress = ProgressLine::new(rt);
     let made = make_log_device(rt.alloc(), contents, &words.measures, files, &mut progress);
     progress.ends();
     made
 }
 
-/// Opens a log's two files to make; the words say whether they must be new.
-fn open_both_told<'a>(rt: &HostRuntime, words: &FormatWords<'a>) -> Result<LogPair, Unopened<'a>>
-    ensures { IfOk result (λ pair. words.now.has_to_be_new ≡ true → (pair.log.file.is_made ≡ true) × (pair.home.file.is_made ≡ true)) }
+/// Whether a log's file, or home `with_home`, is a block device that another program keeps something on which may not be lost; says what,
+/// and which files were made and stay. Nothing is written but lines.
+fn keeps_foreign<E: Write>(
+    words: &FormatWords<'_>,
+    with_home: bool,
+    files: &LogPair,
+    err: &mut E,
+) -> io::Result<bool>
+    ensures forced { IfOk result (λ keeps. keeps ≡ true → words.now.force ≡ false) }
 {
-    if words.has_to_be_new {
-        make_pair(rt, words.paths)
-    } else {
-        open_or_make_pair(rt, words.paths, None)
+    if words.force {
+        return Ok(false);
     }
-}
-
-/// Opens a log's file to make, which must be new if the words say so, and a home area's file to keep.
-fn open_log_told<'a>(rt: &HostRuntime, words: &FormatWords<'a>) -> Result<KeptPair, Unopened<'a>>
-    ensures { IfOk result (λ kept. words.now.has_to_be_new ≡ true → kept.pair.log.file.is_made ≡ true) }
-{
-    let bytes = home_bytes(&words.measures);
-    if words.has_to_be_new {
-        make_log(rt, words.paths, bytes)
-    } else {
-        open_or_make_log(rt, words.paths, bytes)
-    }
+    files.say_foreign(words.paths, with_home, err)
 }
 
 /// Whether the content of a log's file may be overwritten. Says what it is, unless it is empty; and if it may not, which file was made and
@@ -302,7 +344,7 @@ fn may_format<E: Write>(
     }
     let may = may_overwrite_file(alloc, words, files, err)?;
     if !may {
-        files.say_made_home(words.paths, err)?;
+        files.say_made(words.paths, err)?;
     }
     Ok(may)
 }
@@ -337,9 +379,8 @@ fn format_device<C: Contents, W: Write + Drop, E: Write + Drop>(
     device: FileDevice<C>,
     out: W,
     err: E,
-) -> io::Result<Status>
-    ensures made { IfOk result (λ status. status ≡ Fine → (keep_home : Bool) → over_told words.now.has_to_be_new keep_home device →
-        IsDoneOver C.contents (over_told words.now.has_to_be_new keep_home) (λ old new. IsMade words.now.measures.log_blocks words.now.measures.uuid words.now.measures.wide old new)) }
+) -> io::Result<CommandStatus>
+    ensures made { IfOk result (λ status. status ≡ Fine → IsMadeOn C.contents words.now device) }
     ensures other { IfOk result (λ status. status ≢ Fine → status ≡ Refused) }
 {
     let (mut device, mut err) = (device, err);
@@ -355,7 +396,7 @@ fn recover_files<C: Contents, W: Write + Drop, E: Write + Drop>(
     words: &RecoverWords<'_>,
     out: W,
     err: E,
-) -> io::Result<Status>
+) -> io::Result<CommandStatus>
     ensures done { IfOk result (λ status. status ≡ Fine → IsDoneOver C.contents IsOverTwo (Recovers words.now.dry_run words.now.before_damage)) }
     ensures other { IfOk result (λ status. status ≢ Fine → status ≡ Refused) }
 {
@@ -380,12 +421,12 @@ fn recover_device<C: Contents, W: Write + Drop, E: Write + Drop>(
     device: FileDevice<C>,
     out: W,
     err: E,
-) -> io::Result<Status>
+) -> io::Result<CommandStatus>
     ensures done { IfOk result (λ status. status ≡ Fine → IsOverTwo device → IsDoneOver C.contents IsOverTwo (Recovers words.now.dry_run words.now.before_damage)) }
     ensures other { IfOk result (λ status. status ≢ Fine → status ≡ Refused) }
 {
     let (mut out, mut err) = (out, err);
-    let progress = Progress::new(rt);
+    let progress = ProgressLine::new(rt);
     let (status, left) = recovering::recover(
         rt.alloc(),
         words,
@@ -405,12 +446,12 @@ fn plan_files<C: Contents, W: Write + Drop, E: Write + Drop>(
     words: &RecoverWords<'_>,
     out: W,
     err: E,
-) -> io::Result<Status>
+) -> io::Result<CommandStatus>
     ensures done { IfOk result (λ status. status ≡ Fine → IsDoneOver C.contents IsOverTwo (Recovers words.now.dry_run words.now.before_damage)) }
     ensures other { IfOk result (λ status. status ≢ Fine → status ≡ Refused) }
 {
     let mut err = err;
-    let files = match open_pair_to_read_within(rt, words.paths, words.wait) {
+    let files = match open_pair_within(rt, words.paths, words.wait) {
         Ok(files) => files,
         Err(unopened) => return unopened.refuse(&mut err),
     };
@@ -424,11 +465,11 @@ fn plan_files<C: Contents, W: Write + Drop, E: Write + Drop>(
 fn apply_files<C: Contents, W: Write + Drop, E: Write + Drop>(
     rt: &HostRuntime,
     contents: C,
-    text: &mut Text,
+    text: &mut ScriptText,
     words: &ApplyWords<'_>,
     out: W,
     err: E,
-) -> io::Result<Status>
+) -> io::Result<CommandStatus>
     ensures done { IfOk result (λ status. status ≡ Fine → IsOfText text.new words.now.script.now (IsAppliedOver C.contents words.now (W.contents out))) }
     ensures other { IfOk result (λ status. status ≢ Fine → status ≡ Refused) }
 {
@@ -456,7 +497,7 @@ fn apply_opened<C: Contents, W: Write + Drop, E: Write + Drop>(
     script: &[u8],
     out: W,
     err: E,
-) -> io::Result<Status>
+) -> io::Result<CommandStatus>
     ensures done { IfOk result (λ status. status ≡ Fine → IsAppliedOver C.contents words.now (W.contents out) script.now) }
     ensures other { IfOk result (λ status. status ≢ Fine → status ≡ Refused) }
 {
@@ -464,7 +505,7 @@ fn apply_opened<C: Contents, W: Write + Drop, E: Write + Drop>(
     match device_of(rt.alloc(), contents, files) {
         Ok(device) => {
             let alloc = rt.alloc();
-            let done = apply::apply_as_told(alloc, words, device, script, out, &mut err)?;
+            let done = apply::apply(alloc, words, device, script, out, &mut err)?;
             say_failure(apply::device_of(&done), words.paths, &mut err)?;
             Ok(status_of_all(&done))
         }
@@ -473,13 +514,13 @@ fn apply_opened<C: Contents, W: Write + Drop, E: Write + Drop>(
 }
 
 /// The status of a command that gives back what is left, in either case.
-fn status_of_all<T, U>(done: &Result<T, U>) -> Status
+fn status_of_all<T, U>(done: &Result<T, U>) -> CommandStatus
     ensures fine { result ≡ Fine ↔ IsOk done.now }
     ensures other { result ≢ Fine → result ≡ Refused }
 {
     match done {
-        Ok(_) => Status::Fine,
-        Err(_) => Status::Refused,
+        Ok(_) => CommandStatus::Fine,
+        Err(_) => CommandStatus::Refused,
     }
 }
 
@@ -490,7 +531,7 @@ fn dump_file<C: Contents, W: Write + Drop, E: Write + Drop>(
     words: &DumpWords<'_>,
     out: W,
     err: E,
-) -> io::Result<Status>
+) -> io::Result<CommandStatus>
     ensures done { IfOk result (λ status. status ≡ Fine → IsDoneOver C.contents IsOverAny (λ old new. HasDumped words.now.copy old)) }
     ensures other { IfOk result (λ status. status ≢ Fine → status ≡ Refused) }
 {
@@ -517,12 +558,12 @@ fn cat_files<C: Contents, W: Write + Drop, E: Write + Drop>(
     words: &CatWords<'_>,
     out: W,
     err: E,
-) -> io::Result<Status>
+) -> io::Result<CommandStatus>
     ensures done { IfOk result (λ status. status ≡ Fine → IsDoneOver C.contents IsOverTwo (λ old new. HasLeft words.now.block old)) }
     ensures other { IfOk result (λ status. status ≢ Fine → status ≡ Refused) }
 {
     let (mut out, mut err) = (out, err);
-    let files = match open_pair_to_read_within(rt, words.paths, words.wait) {
+    let files = match open_pair_within(rt, words.paths, words.wait) {
         Ok(files) => files,
         Err(unopened) => return unopened.refuse(&mut err),
     };
@@ -543,7 +584,7 @@ fn upgrade_file<C: Contents, W: Write + Drop, E: Write + Drop>(
     path: &str,
     out: W,
     err: E,
-) -> io::Result<Status>
+) -> io::Result<CommandStatus>
     ensures done { IfOk result (λ status. status ≡ Fine → IsDoneOver C.contents IsOverAny HasUpgraded) }
     ensures other { IfOk result (λ status. status ≢ Fine → status ≡ Refused) }
 {
@@ -565,13 +606,14 @@ fn show_file<C: Contents, W: Write + Drop, E: Write + Drop>(
     words: &ShowWords<'_>,
     out: W,
     err: E,
-) -> io::Result<Status>
+) -> io::Result<CommandStatus>
     ensures other { IfOk result (λ status. status ≢ Fine → status ≡ Refused) }
 {
     let mut err = err;
     match open_log(rt.alloc(), contents, rt, words.log) {
         Ok(mut device) => {
-            let status = show(rt.alloc(), words, &mut device, out, &mut err)?;
+            let sectors = sectors_at(rt, words.log);
+            let status = show(rt.alloc(), words, &mut device, sectors, out, &mut err)?;
             say_failure(&device, lone(words.log), &mut err)?;
             Ok(status)
         }

@@ -7,7 +7,7 @@ use std::str::from_utf8;
 
 /// The key under which a line is printed. A run's lines come in this order.
 #[derive(Clone, Copy, PartialEq, Eq)]
-enum Key {
+enum LineKey {
     /// An operation's outcome.
     Operations,
     /// Where the device stopped.
@@ -21,17 +21,18 @@ enum Key {
     Verdict,
 }
 
-impl Key {
+impl LineKey {
     /// The key of a line after one of this key.
-    fn after(self, line: &str) -> Key {
+    fn after(self, line: &str) -> LineKey {
         match self {
-            Key::Operations if !line.starts_with("stopped ") => Key::Operations,
-            Key::Operations => Key::Stopped,
-            Key::Stopped => Key::Dump,
-            Key::Dump if !line.starts_with("open ") && !line.starts_with("stopped ") => Key::Dump,
-            _ if line.starts_with("home ") => Key::Home,
-            _ if line.starts_with("verdict ") => Key::Verdict,
-            _ => Key::Openings,
+            LineKey::Operations if !line.starts_with("stopped ") => LineKey::Operations,
+            LineKey::Operations => LineKey::Stopped,
+            LineKey::Stopped => LineKey::Dump,
+            LineKey::Dump if !line.starts_with("open ") && !line.starts_with("stopped ") =>
+                LineKey::Dump,
+            _ if line.starts_with("home ") => LineKey::Home,
+            _ if line.starts_with("verdict ") => LineKey::Verdict,
+            _ => LineKey::Openings,
         }
     }
 }
@@ -57,28 +58,32 @@ pub(crate) fn write_object<W: Write + Drop>(
 
 fn write_members<W: Write>(text: &str, out: &mut W) -> io::Result<()> {
     write!(out, "{{\"operations\":")?;
-    write_list(text, Key::Operations, out)?;
+    write_list(text, LineKey::Operations, out)?;
     write!(out, ",\"stopped\":{}", stop_in(text))?;
     write!(out, ",\"dump\":")?;
-    write_list(text, Key::Dump, out)?;
+    write_list(text, LineKey::Dump, out)?;
     write!(out, ",\"openings\":")?;
-    write_list(text, Key::Openings, out)?;
+    write_list(text, LineKey::Openings, out)?;
     write!(out, ",\"home\":")?;
-    write_list(text, Key::Home, out)?;
-    writeln!(out, ",\"verdict\":\"{}\"}}", told_in(text, Key::Verdict))
+    write_list(text, LineKey::Home, out)?;
+    writeln!(
+        out,
+        ",\"verdict\":\"{}\"}}",
+        told_in(text, LineKey::Verdict)
+    )
 }
 
 /// The write at which the device stopped, or null.
 fn stop_in(text: &str) -> &str {
-    match told_in(text, Key::Stopped) {
+    match told_in(text, LineKey::Stopped) {
         "at end" => "null",
         write => write,
     }
 }
 
 /// The text after the first word of the line of this key.
-fn told_in(text: &str, wanted: Key) -> &str {
-    let mut key = Key::Operations;
+fn told_in(text: &str, wanted: LineKey) -> &str {
+    let mut key = LineKey::Operations;
     for line in text.lines() {
         key = key.after(line);
         if key == wanted {
@@ -89,8 +94,8 @@ fn told_in(text: &str, wanted: Key) -> &str {
 }
 
 /// Writes the list of the lines of this key.
-fn write_list<W: Write>(text: &str, wanted: Key, out: &mut W) -> io::Result<()> {
-    let mut key = Key::Operations;
+fn write_list<W: Write>(text: &str, wanted: LineKey, out: &mut W) -> io::Result<()> {
+    let mut key = LineKey::Operations;
     let mut first = true;
     write!(out, "[")?;
     for line in text.lines() {
@@ -107,16 +112,16 @@ fn write_list<W: Write>(text: &str, wanted: Key, out: &mut W) -> io::Result<()> 
 }
 
 /// Writes a line of this key.
-fn write_line<W: Write>(key: Key, line: &str, out: &mut W) -> io::Result<()> {
+fn write_line<W: Write>(key: LineKey, line: &str, out: &mut W) -> io::Result<()> {
     match key {
-        Key::Operations => {
+        LineKey::Operations => {
             let (operation, answer) = sides_of(line, " = ");
             write!(
                 out,
                 "{{\"operation\":\"{operation}\",\"answer\":\"{answer}\"}}"
             )
         }
-        Key::Home => {
+        LineKey::Home => {
             let (block, begins) = sides_of(sides_of(line, " ").1, " ");
             write!(out, "{{\"block\":{block},\"begins\":\"{begins}\"}}")
         }

@@ -13,7 +13,7 @@ const NEXT: u64 = 200;
 /// Shows progress on standard error, if that is a terminal, once a command has taken a second: the log block being read and the home blocks
 /// written, the filled part of a file, the stops being swept, or the failing call. The line vanishes when the command ends.
 #[derive(Drop)]
-pub struct Progress<'a> {
+pub struct ProgressLine<'a> {
     rt: &'a HostRuntime,
     /// When the command began, if a line may be shown.
     begun: Option<Instant>,
@@ -25,7 +25,7 @@ pub struct Progress<'a> {
     written: u64,
 }
 
-impl<'a> Progress<'a> {
+impl<'a> ProgressLine<'a> {
     /// A line for a command that begins now.
     pub fn new(rt: &'a HostRuntime) -> Self {
         let begun = if rt.stderr().is_terminal() {
@@ -33,7 +33,7 @@ impl<'a> Progress<'a> {
         } else {
             None
         };
-        Progress {
+        ProgressLine {
             rt,
             begun,
             due: Duration::from_millis(FIRST),
@@ -138,7 +138,7 @@ impl<'a> Progress<'a> {
     }
 }
 
-impl Watch for Progress<'_> {
+impl Watch for ProgressLine<'_> {
     fn goes_on(&mut self, step: WatchStep) {
         match step {
             WatchStep::Reads { area, n, blocks } => self.reads(area, n, blocks),

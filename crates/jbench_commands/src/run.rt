@@ -1,13 +1,13 @@
 //! The command `run`: reads a script's text, and runs it.
-ghost use Rattle.std.specs.Prelude.{◌≡◌, ◌≢◌, true, IfErr, IfOk};
+ghost use Rattle.std.specs.Prelude.{◌≡◌, ◌≢◌, true, is_some, IfErr, IfOk};
 ghost use Rattle.jbench_words.specs.Images.{IsUnmade};
-ghost use Rattle.jbench_words.specs.declared.fault.Status.TheVariants.{Fine, Refused};
+ghost use Rattle.jbench_words.specs.declared.fault.CommandStatus.TheVariants.{Fine, Refused};
 ghost use Rattle.jbench_commands.specs.Runs.{AreStopsTold, HasRun, IsStopTold, IsTaken, runs_told};
 
 use crate::faults::of_run;
 use crate::object::write_object;
 use block_device::Device;
-use jbench_words::fault::{self, Fault, Status};
+use jbench_words::fault::{self, CommandStatus, Fault};
 use jbench_words::words::{RunWords, StopWords};
 use journal_script::{HOMES, Measures, Script};
 use script_run::{Stop, Stops};
@@ -29,14 +29,14 @@ pub fn run<M: MakeImage + Drop, W: Write + Drop, E: Write + Drop>(
     image: Option<M>,
     out: W,
     err: E,
-) -> io::Result<Status>
-    ensures run { IfOk result (λ status. status ≡ Fine → HasRun (runs_told image) script.now words.now true) }
+) -> io::Result<CommandStatus>
+    ensures run { IfOk result (λ status. status ≡ Fine → HasRun (runs_told (is_some image)) script.now words.now true) }
     ensures other { IfOk result (λ status. status ≢ Fine → status ≡ Refused) }
 {
     let mut err = err;
     match verdict_of(alloc, words, script, image, out) {
-        Ok(true) => Ok(Status::Fine),
-        Ok(false) => Ok(Status::VerdictFalse),
+        Ok(true) => Ok(CommandStatus::Fine),
+        Ok(false) => Ok(CommandStatus::VerdictFalse),
         Err(Fault::Output(e)) => Err(e),
         Err(fault) => fault::refuse(&mut err, path_of(words, &fault), &fault),
     }
@@ -89,7 +89,7 @@ fn stops_of<'a>(words: &'a RunWords<'_>) -> Stops<'a>
 ///
 /// `Fault::ImageFile`: the device cannot be made, or home has more than 1,048,576 blocks to copy; nothing was printed. Otherwise those of a
 /// run, and of the copy of its image.
-pub fn run_tested<M: MakeImage + Drop, W: Write>(
+fn run_tested<M: MakeImage + Drop, W: Write>(
     alloc: Global,
     script: &Script,
     stops: &Stops<'_>,
@@ -97,7 +97,7 @@ pub fn run_tested<M: MakeImage + Drop, W: Write>(
     out: &mut W,
 ) -> Result<bool, Fault>
     ensures unmade { IfErr result (λ fault. IsUnmade fault → out.new ≡ out.old) }
-    ensures run { IfOk result (runs_told image script.now stops.now) }
+    ensures run { IfOk result (runs_told (is_some image) script.now stops.now) }
     ensures right { IfOk result (λ right. right ≡ true) }
 {
     let Some(image) = image else {
@@ -136,7 +136,7 @@ fn verdict_of<M: MakeImage + Drop, W: Write + Drop>(
     image: Option<M>,
     out: W,
 ) -> Result<bool, Fault>
-    ensures run { IfOk result (HasRun (runs_told image) script.now words.now) }
+    ensures run { IfOk result (HasRun (runs_told (is_some image)) script.now words.now) }
     ensures right { IfOk result (λ right. right ≡ true) }
 {
     let script = read_script(alloc, script)?;

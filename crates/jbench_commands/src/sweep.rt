@@ -1,11 +1,11 @@
 //! The command `sweep`: reads a script's text, and sweeps it.
 ghost use Rattle.std.specs.Prelude.{◌≡◌, ◌<◌, IfOk};
-ghost use Rattle.jbench_words.specs.declared.fault.Status.TheVariants.{Fine, VerdictFalse};
+ghost use Rattle.jbench_words.specs.declared.fault.CommandStatus.TheVariants.{Fine, VerdictFalse};
 ghost use Rattle.jbench_commands.specs.Sweeps.{HasSwept, HasSweptFailures, HasSweptStops, IsSweptTo};
 
 use crate::faults::of_run;
 use crate::run::read_script;
-use jbench_words::fault::{self, Fault, Status};
+use jbench_words::fault::{self, CommandStatus, Fault};
 use jbench_words::watch::Watch;
 use jbench_words::words::SweepWords;
 use journal_script::Script;
@@ -28,7 +28,7 @@ pub fn sweep<P: Watch + Drop, W: Write + Drop, E: Write + Drop>(
     watch: P,
     out: W,
     err: E,
-) -> io::Result<Status>
+) -> io::Result<CommandStatus>
     ensures { IfOk result (IsSweptTo script.now words.now.fails) }
 {
     let (mut watch, mut out, mut err) = (watch, out, err);
@@ -40,14 +40,14 @@ pub fn sweep<P: Watch + Drop, W: Write + Drop, E: Write + Drop>(
 }
 
 /// A sweep's status, by its count of openings that were not right; that count is 0 for this journal.
-fn status_of(count: u64) -> Status
+fn status_of(count: u64) -> CommandStatus
     ensures fine { count ≡ 0 → result ≡ Fine }
     ensures wrong { 0 < count → result ≡ VerdictFalse }
 {
     if count == 0 {
-        Status::Fine
+        CommandStatus::Fine
     } else {
-        Status::VerdictFalse
+        CommandStatus::VerdictFalse
     }
 }
 

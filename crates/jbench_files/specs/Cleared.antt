@@ -1,6 +1,5 @@
 -- The contents of cleared files. Unknown blocks become zeros. This project's own.
-use Rattle.std.specs.Prelude.{ℕ, []}
-use Rattle.journal_model.specs.declared.number.Area.{Area}
+use Rattle.std.specs.Prelude.{[]}
 use Rattle.journal_model.specs.declared.number.Area.TheVariants.{Home, Log}
 use Rattle.journal_model.specs.Disk.{Cell, Disk}
 use Rattle.file_device.specs.Files.{FileContents}

@@ -1,3 +1,4 @@
 pub mod Apart
 pub mod Cleared
 pub mod Over
+pub mod Wanted

@@ -3,15 +3,15 @@ ghost use Rattle.std.specs.Prelude.{◌≡◌, ◌*◌, ◌-◌, ◌^◌, min, I
 ghost use Rattle.journal_model.specs.declared.number.Area.TheVariants.{Home, Log};
 ghost use Rattle.log_format.specs.Size.{IsBlockSize};
 ghost use Rattle.jbench_files.specs.Over.{IsOver};
-ghost use Rattle.jbench_words.specs.declared.fault.Status.TheVariants.{Refused};
+ghost use Rattle.jbench_words.specs.declared.fault.CommandStatus.TheVariants.{Refused};
 
 use crate::locked::{take, take_shared};
 use crate::pairs::{HomeFile, KeptPair, LockedPair, LogFile, LogPair, ReadPair};
-use crate::ready::{ReadyLog, number_at};
+use crate::ready::{BLOCK_SIZE_PLACE, ReadyLog, number_at};
 use crate::regular::{open_there, open_to_read};
 use crate::room::{AreaFile, Room, clear, give_back, reserve};
-use file_device::{Contents, FileDevice, UnknownContents, WriteLock};
-use jbench_words::fault::{Status, refuse_file};
+use file_device::{Contents, FileDevice, UnknownContents, WriteLock, length_of};
+use jbench_words::fault::{CommandStatus, refuse_file};
 use jbench_words::watch::Watch;
 use jbench_words::words::LogPaths;
 use journal_model::Area;
@@ -20,6 +20,7 @@ use std::alloc::Global;
 use std::fs::{File, Files};
 use std::io;
 use std::io::{ErrorKind, Write};
+use std::os::unix::fs::FileTypeExt;
 
 /// The assumption that files hold zeros, durably; only `make_device` makes it, of files that it cleared.
 #[derive(Drop)]
@@ -40,9 +41,6 @@ impl<C: Contents> Contents for LogCleared<C> {
 
     ghost contents = { log_cleared C.contents };
 }
-
-/// Where the superblock has s_blocksize.
-const BLOCK_SIZE_PLACE: u64 = 0x0c;
 
 /// A file of a log that cannot get its length.
 #[derive(Drop)]
@@ -89,7 +87,7 @@ impl Unmade {
     /// # Errors
     ///
     /// The lines could not be written.
-    pub fn refuse(self, paths: LogPaths<'_>, err: &mut impl Write) -> io::Result<Status>
+    pub fn refuse(self, paths: LogPaths<'_>, err: &mut impl Write) -> io::Result<CommandStatus>
         ensures { IfOk result (λ status. status ≡ Refused) }
     {
         let path = self.path(paths);
@@ -113,7 +111,7 @@ impl Unmade {
 ///
 /// # Errors
 ///
-/// The path names no regular file, it cannot be read, another program writes it, or memory ran out.
+/// The path names neither a regular file nor a block device, it cannot be read, another program writes it, or memory ran out.
 pub fn open_log<C: Contents, R: Files<File = File>>(
     alloc: Global,
     contents: C,
@@ -134,7 +132,8 @@ pub fn open_log<C: Contents, R: Files<File = File>>(
 ///
 /// # Errors
 ///
-/// The path names no regular file, it cannot be read, written or synced, another program has it, or memory ran out.
+/// The path names neither a regular file nor a block device, it cannot be read, written or synced, another program has it, or memory ran out.
+/// `InvalidInput`: it is a device whose sectors are longer than the log's blocks.
 pub fn open_log_to_write<C: Contents, R: Files<File = File>>(
     alloc: Global,
     contents: C,
@@ -143,8 +142,9 @@ pub fn open_log_to_write<C: Contents, R: Files<File = File>>(
 ) -> io::Result<FileDevice<C>>
     ensures home { IfOk result (λ device. device.home_file ≡ None) }
 {
-    let log = ReadyLog::with_superblock(take(rt, path, open_there(rt, path)?)?)?;
-    log_in(alloc, contents, log.into_file())
+    let log = take(rt, path, open_there(rt, path)?)?;
+    log.file().require_blocks(block_size_of(&log.file().file)?)?;
+    log_in(alloc, contents, ReadyLog::with_superblock(log)?.into_file())
 }
 
 /// A device over a log's file alone.
@@ -160,7 +160,8 @@ fn log_in<C: Contents>(alloc: Global, contents: C, file: File) -> io::Result<Fil
 ///
 /// # Errors
 ///
-/// The log cannot be read, written or synced, the system has no data on a file, or memory ran out.
+/// The log cannot be read, written or synced, the system has no data on a file, or memory ran out. `InvalidInput`: a file is a device whose
+/// sectors are longer than the log's blocks. Nothing is written then.
 pub fn device_of<C: Contents>(
     alloc: Global,
     contents: C,
@@ -168,6 +169,10 @@ pub fn device_of<C: Contents>(
 ) -> io::Result<FileDevice<C>>
     ensures { IfOk result (IsOver files.log.file.file files.home.file.file) }
 {
+    let size = block_size_of(files.log_file())?;
+    if let Err((_, error)) = files.require_blocks(size) {
+        return Err(error);
+    }
     let (log, home) = files.into_files();
     device_over(alloc, contents, ReadyLog::made_durable(log)?, home)
 }
@@ -203,12 +208,13 @@ fn device_over<C: Contents>(
 }
 
 /// Makes both files as long as the measures say, all zeros and durable, and a device over them. Disk space is reserved before old content
-/// is lost. `watch` learns what is written.
+/// is lost. `watch` learns what is written. Block devices keep their length: the log has the first blocks of one, and all of one that is
+/// home becomes zeros.
 ///
 /// # Errors
 ///
-/// The block size is not valid, or the disk has no room: both files are as before. A file cannot be overwritten or synced, or memory ran
-/// out: the old content of both may be lost.
+/// The block size is not valid, or shorter than a device's sectors, or the disk has no room: both files are as before. A file cannot be
+/// overwritten or synced, or memory ran out: the old content of both may be lost.
 pub fn make_device<C: Contents>(
     alloc: Global,
     contents: C,
@@ -218,10 +224,10 @@ pub fn make_device<C: Contents>(
 ) -> Result<FileDevice<Cleared<C>>, Unmade>
     ensures { IfOk result (IsOver files.log.file.file files.home.file.file) }
 {
+    let size = tested_size(measures, &files)?;
     let (log, home) = files.into_files();
-    let size = tested_size(measures)?;
     let log_room = log_room(alloc, measures, &log, watch)?;
-    let home_room = match reserve(alloc, of_home(&home), home_bytes(measures), watch) {
+    let home_room = match home_room(alloc, measures, &home, watch) {
         Ok(room) => room,
         Err(error) => {
             return Err(match give_back(log.file(), log_room) {
@@ -234,15 +240,22 @@ pub fn make_device<C: Contents>(
     if let Err(error) = clear(alloc, of_home(&home), home_room, watch) {
         return Err(Unmade::of(Area::Home, error));
     }
-    device_in(alloc, Cleared(contents), size, log, home)
+    device_in(
+        alloc,
+        Cleared(contents),
+        size,
+        log_bytes(measures),
+        log,
+        home,
+    )
 }
 
 /// Makes a log's file as long as the measures say, all zeros and durable, and a device over it and the home area's file, which stays. Disk
-/// space is reserved before old content is lost. `watch` learns what is written.
+/// space is reserved before old content is lost. `watch` learns what is written. A log that is a block device has its first blocks.
 ///
 /// # Errors
 ///
-/// The block size is not valid, or the disk has no room: the log is as before. The log cannot be overwritten or synced, the system has no
+/// The block size is not valid, or shorter than a device's sectors, or the disk has no room: the log is as before. The log cannot be overwritten or synced, the system has no
 /// data on the home area's file, or memory ran out: the log's old content may be lost.
 pub fn make_log_device<C: Contents>(
     alloc: Global,
@@ -253,11 +266,19 @@ pub fn make_log_device<C: Contents>(
 ) -> Result<FileDevice<LogCleared<C>>, Unmade>
     ensures { IfOk result (IsOver files.pair.log.file.file files.pair.home.file.file) }
 {
-    let (log, home) = files.into_pair().into_files();
-    let size = tested_size(measures)?;
+    let files = files.into_pair();
+    let size = tested_size(measures, &files)?;
+    let (log, home) = files.into_files();
     let room = log_room(alloc, measures, &log, watch)?;
     let log = clear_log(alloc, log, room, watch)?;
-    device_in(alloc, LogCleared(contents), size, log, home)
+    device_in(
+        alloc,
+        LogCleared(contents),
+        size,
+        log_bytes(measures),
+        log,
+        home,
+    )
 }
 
 /// A device to read a log's file before it is made anew: without a home area, with the superblock's block size.
@@ -302,15 +323,22 @@ pub fn home_bytes(measures: &Measures) -> u64
         .saturating_mul(measures.block_size as u64)
 }
 
-/// The measures' block size, if it is valid.
-fn tested_size(measures: &Measures) -> Result<usize, Unmade>
+/// The log's bytes, at most 2^64 - 1.
+fn log_bytes(measures: &Measures) -> u64 {
+    u64::from(measures.log_blocks).saturating_mul(measures.block_size as u64)
+}
+
+/// The measures' block size, if it is valid, and no shorter than the sectors of these files.
+fn tested_size(measures: &Measures, files: &LogPair) -> Result<usize, Unmade>
     ensures { IfOk result IsBlockSize }
 {
     let size = measures.block_size;
-    if is_block_size(size as u64) {
-        Ok(size)
-    } else {
-        Err(Unmade::kept(Area::Log, io::Error::from(ErrorKind::InvalidInput)))
+    if !is_block_size(size as u64) {
+        return Err(Unmade::kept(Area::Log, io::Error::from(ErrorKind::InvalidInput)));
+    }
+    match files.require_blocks(size) {
+        Ok(()) => Ok(size),
+        Err((area, error)) => Err(Unmade::kept(area, error)),
     }
 }
 
@@ -328,14 +356,29 @@ fn log_room(
     log: &LogFile<WriteLock>,
     watch: &mut impl Watch,
 ) -> Result<Room, Unmade> {
-    let bytes = u64::from(measures.log_blocks).saturating_mul(measures.block_size as u64);
     let of = AreaFile {
         area: Area::Log,
         file: log.file(),
     };
-    match reserve(alloc, of, bytes, watch) {
+    match reserve(alloc, of, log_bytes(measures), watch) {
         Ok(room) => Ok(room),
         Err(error) => Err(Unmade::kept(Area::Log, error)),
+    }
+}
+
+/// Reserves disk space for a home area of these measures; of a block device all of it.
+fn home_room(
+    alloc: Global,
+    measures: &Measures,
+    home: &HomeFile,
+    watch: &mut impl Watch,
+) -> io::Result<Room> {
+    let of = of_home(home);
+    let bytes = home_bytes(measures);
+    if of.file.metadata()?.file_type().is_block_device() {
+        reserve(alloc, of, bytes.max(length_of(of.file)?), watch)
+    } else {
+        reserve(alloc, of, bytes, watch)
     }
 }
 
@@ -354,11 +397,12 @@ fn clear_log(
     }
 }
 
-/// A device over these files, with blocks of `size` bytes.
+/// A device over these files, with blocks of `size` bytes; its log has at most so many bytes of its file.
 fn device_in<C: Contents>(
     alloc: Global,
     contents: C,
     size: usize,
+    log_bytes: u64,
     log: ReadyLog,
     home: HomeFile,
 ) -> Result<FileDevice<C>, Unmade>
@@ -366,7 +410,7 @@ fn device_in<C: Contents>(
     ensures { IfOk result (IsOver log.file home.file) }
 {
     let (log, home) = (log.into_file(), home.into_file());
-    match FileDevice::new(alloc, contents, size, log, Some(home)) {
+    match FileDevice::with_log_of(alloc, contents, size, log, log_bytes, Some(home)) {
         Ok(device) => Ok(device),
         Err(e) => Err(Unmade::of(e.area, e.error)),
     }

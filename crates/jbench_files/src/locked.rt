@@ -2,17 +2,71 @@
 ghost use Rattle.std.specs.Prelude.{◌≡◌, IfOk};
 
 use crate::holder::held;
-use crate::regular::{Identity, RegularFile};
+use crate::nodes::require_writable;
+use crate::regular::{Identity, RegularFile, open_there, open_to_read};
+use crate::users::require_unused;
 use file_device::{ReadLock, Unlocked, WriteLock, lock, lock_shared};
 use std::fs::{File, Files};
 use std::io::ErrorKind;
 use std::{fs, io};
 
-/// A regular file with its lock. A `WriteLock` excludes all other locks, a `ReadLock` those of writers.
+/// A file with its lock. A `WriteLock` excludes all other locks, a `ReadLock` those of writers.
 #[derive(Drop)]
 pub struct LockedFile<L> {
     file: RegularFile,
     lock: L,
+}
+
+/// A kind of lock, and how a file is opened for it.
+pub trait FileLock: Drop {
+    /// Opens an existing file for what the lock allows. Its content stays.
+    ///
+    /// # Errors
+    ///
+    /// The path names neither a regular file nor a block device, or it cannot be read, or written if the lock allows that.
+    fn open<R: Files<File = File>>(rt: &R, path: &str) -> io::Result<RegularFile>;
+
+    /// Takes the lock of a file that was opened by this path.
+    ///
+    /// # Errors
+    ///
+    /// Those of `take` and `take_shared`.
+    fn take<R: Files<File = File>>(
+        rt: &R,
+        path: &str,
+        file: RegularFile,
+    ) -> io::Result<LockedFile<Self>>
+    where
+        Self: Sized,
+        ensures { IfOk result (λ locked. locked.file ≡ file) };
+}
+
+impl FileLock for WriteLock {
+    fn open<R: Files<File = File>>(rt: &R, path: &str) -> io::Result<RegularFile> {
+        open_there(rt, path)
+    }
+
+    fn take<R: Files<File = File>>(
+        rt: &R,
+        path: &str,
+        file: RegularFile,
+    ) -> io::Result<LockedFile<WriteLock>> {
+        take(rt, path, file)
+    }
+}
+
+impl FileLock for ReadLock {
+    fn open<R: Files<File = File>>(rt: &R, path: &str) -> io::Result<RegularFile> {
+        open_to_read(rt, path)
+    }
+
+    fn take<R: Files<File = File>>(
+        rt: &R,
+        _path: &str,
+        file: RegularFile,
+    ) -> io::Result<LockedFile<ReadLock>> {
+        take_shared(rt, file)
+    }
 }
 
 /// Takes the write lock of a file that was opened by this path.
@@ -20,7 +74,8 @@ pub struct LockedFile<L> {
 /// # Errors
 ///
 /// `WouldBlock`: another program has a lock; its process is named if the system tells it. `NotFound`: another program renamed or removed
-/// the file, so the path names another one. Otherwise the system's answer.
+/// the file, so the path names another one. `ResourceBusy`: it is a block device that the system names a user of; `ReadOnlyFilesystem`: one
+/// that can't be written. Otherwise the system's answer.
 pub(crate) fn take<R: Files<File = File>>(
     rt: &R,
     path: &str,
@@ -31,6 +86,10 @@ pub(crate) fn take<R: Files<File = File>>(
     match lock(&file.file) {
         Ok(lock) => {
             require_name(rt, path, &file)?;
+            if let Some(device) = file.device() {
+                require_writable(rt, device)?;
+                require_unused(rt, device)?;
+            }
             Ok(LockedFile { file, lock })
         }
         Err(e) => Err(unlocked(rt, &file, e)),
@@ -40,7 +99,7 @@ pub(crate) fn take<R: Files<File = File>>(
 /// Why a file can't be locked.
 fn unlocked<R: Files<File = File>>(rt: &R, file: &RegularFile, e: Unlocked) -> io::Error {
     match e {
-        Unlocked::Held => held(rt, file.identity),
+        Unlocked::Held => held(rt, file.place),
         Unlocked::Failed(e) => e,
     }
 }

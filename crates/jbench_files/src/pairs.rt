@@ -1,17 +1,20 @@
 //! Opens a log's two files, and locks each before it reads either.
 ghost use Rattle.std.specs.Prelude.{◌≡◌, true, IfOk, IfSome};
 ghost use Rattle.jbench_files.specs.Apart.{AreApart};
-ghost use Rattle.jbench_words.specs.declared.fault.Status.TheVariants.{Refused};
+ghost use Rattle.jbench_files.specs.Wanted.{IsAsWanted};
+ghost use Rattle.jbench_words.specs.declared.fault.CommandStatus.TheVariants.{Refused};
 
-use crate::locked::{LockedFile, require_name, take, take_shared};
+use crate::contents::content_of;
+use crate::locked::{FileLock, LockedFile, require_name, take};
 use crate::regular::{
-    Made, Named, RegularFile, Unclaimed, given_twice, make, open_there, open_to_read, require_kept,
-    require_place, sync_folders,
+    Made, Named, RegularFile, Unclaimed, given_twice, make, no_device, no_regular_file, open_there,
+    require_file_place, require_kept, require_place, sync_folders,
 };
 use crate::text::{TextFile, open_text};
-use file_device::{ReadLock, WriteLock};
-use jbench_words::fault::{Status, refuse_file};
+use file_device::{ReadLock, WriteLock, length_of};
+use jbench_words::fault::{CommandStatus, refuse_file};
 use jbench_words::words::LogPaths;
+use journal_model::Area;
 use std::fs::{File, Files};
 use std::io;
 use std::io::{ErrorKind, Write};
@@ -31,7 +34,7 @@ pub type LogPair = LockedPair<WriteLock>;
 /// A log's two files, to read.
 pub type ReadPair = LockedPair<ReadLock>;
 
-/// A log's two files, of which the log is made and home stays; only `open_or_make_log` and `make_log` open such a pair.
+/// A log's two files, of which the log is made and home stays; only `open_or_make_log` opens such a pair.
 #[derive(Drop)]
 pub struct KeptPair {
     pair: LogPair,
@@ -79,19 +82,53 @@ impl<L: Drop> LockedPair<L> {
     ///
     /// The system has no data on it.
     pub fn is_log_empty(&self) -> io::Result<bool> {
-        Ok(self.log.file().file.metadata()?.len() == 0)
+        Ok(length_of(&self.log.file().file)? == 0)
     }
 
-    /// After a refusal, prints that the home area's file stays, if this program made it.
+    /// After a refusal, prints which of the two files stay that this program made.
     ///
     /// # Errors
     ///
     /// The line could not be written.
-    pub fn say_made_home(&self, paths: LogPaths<'_>, err: &mut impl Write) -> io::Result<()> {
-        if self.home.file().is_made() {
-            say_made(err, [None, Some(paths.home)])?;
+    pub fn say_made(&self, paths: LogPaths<'_>, err: &mut impl Write) -> io::Result<()> {
+        let log = self.log.file().is_made().then_some(paths.log);
+        let home = self.home.file().is_made().then_some(paths.home);
+        say_made(err, [log, home])
+    }
+
+    /// Says of a block device of these two that is to be overwritten what another program keeps there, if its beginning shows that, and
+    /// which files stay that were made. Returns whether one does, or can't be read. `with_home` says whether home is looked at too.
+    ///
+    /// # Errors
+    ///
+    /// The lines could not be written.
+    pub fn say_foreign(
+        &self,
+        paths: LogPaths<'_>,
+        with_home: bool,
+        err: &mut impl Write,
+    ) -> io::Result<bool> {
+        let is_kept = say_foreign(self.log.file(), paths.log, err)?
+            || with_home && say_foreign(self.home.file(), paths.home, err)?;
+        if is_kept {
+            self.say_made(paths, err)?;
         }
-        Ok(())
+        Ok(is_kept)
+    }
+
+    /// Fails if either is a block device whose logical sectors are longer than these blocks; the error has its area.
+    pub(crate) fn require_blocks(&self, size: usize) -> Result<(), (Area, io::Error)> {
+        match self.log.file().require_blocks(size) {
+            Ok(()) => match self.home.file().require_blocks(size) {
+                Ok(()) => Ok(()),
+                Err(error) => Err((Area::Home, error)),
+            },
+            Err(error) => Err((Area::Log, error)),
+        }
+    }
+
+    pub(crate) fn log_file(&self) -> &File {
+        &self.log.file().file
     }
 
     /// The log's file once more, with the same lock.
@@ -145,6 +182,26 @@ impl HomeFile {
     }
 }
 
+/// Prints what another program keeps on a block device, if it is one and its beginning shows that, or that it can't be read; returns
+/// whether it printed.
+fn say_foreign(file: &RegularFile, path: &str, err: &mut impl Write) -> io::Result<bool> {
+    if !file.is_device() {
+        return Ok(false);
+    }
+    match content_of(&file.file) {
+        Ok(Some(content)) => {
+            writeln!(err, "jbench: keeps {path}: it holds {content}")?;
+            writeln!(err, "  format --force loses that")?;
+            Ok(true)
+        }
+        Ok(None) => Ok(false),
+        Err(e) => {
+            refuse_file(err, path, e)?;
+            Ok(true)
+        }
+    }
+}
+
 /// A file that cannot be opened.
 #[derive(Drop)]
 pub struct Unopened<'a> {
@@ -175,7 +232,11 @@ impl<'a> Unopened<'a> {
     }
 
     /// The refusal of the home area at this path, after its log was opened.
-    fn of_home<F: Drop>(path: &'a str, refused: Unclaimed<'a>, log: Opened<'a, F>) -> Unopened<'a> {
+    fn of_home<F: Drop>(
+        path: &'a str,
+        refused: Unclaimed<'a>,
+        log: OpenedFile<'a, F>,
+    ) -> Unopened<'a> {
         let Unclaimed { error, made } = refused;
         Unopened {
             path,
@@ -194,7 +255,7 @@ impl<'a> Unopened<'a> {
     /// # Errors
     ///
     /// The lines could not be written.
-    pub fn refuse(self, err: &mut impl Write) -> io::Result<Status>
+    pub fn refuse(self, err: &mut impl Write) -> io::Result<CommandStatus>
         ensures { IfOk result (λ status. status ≡ Refused) }
     {
         let Unopened { path, error, made } = self;
@@ -215,15 +276,15 @@ fn say_made(err: &mut impl Write, made: [Option<&str>; 2]) -> io::Result<()> {
 }
 
 /// An opened file; `made` is set if it was made.
-struct Opened<'a, F> {
+struct OpenedFile<'a, F> {
     file: F,
     made: Option<Made<'a>>,
 }
 
-impl<'a, F: Drop> Opened<'a, F> {
+impl<'a, F: Drop> OpenedFile<'a, F> {
     /// Drops the file. Returns its path if it was made: it stays.
     fn stays(self) -> Option<&'a str> {
-        let Opened { file: _, made } = self;
+        let OpenedFile { file: _, made } = self;
         path_of(made)
     }
 
@@ -231,7 +292,7 @@ impl<'a, F: Drop> Opened<'a, F> {
     fn keep(self, named: &Named) -> F
         ensures { result ≡ self.entry.file }
     {
-        let Opened { file, made } = self;
+        let OpenedFile { file, made } = self;
         match made {
             Some(made) => made.keep(named),
             None => {}
@@ -265,21 +326,21 @@ pub fn open_script<'a, R: Files<File = File>>(
     script.other_than(files.home.file())
 }
 
-/// Opens a log's two distinct files to read and write, and locks each as it opens it. Their content stays.
+/// Opens a log's two distinct files, and takes each one's lock as it opens it. Their content stays.
 ///
 /// # Errors
 ///
-/// The first file that is no regular one, cannot be read and written, is the same as the other, or is locked by another program.
-/// `NotFound`: the log's path names another file by the time home is opened.
-pub fn open_pair<'a, R: Files<File = File>>(
+/// The first that is neither a regular file nor a block device, cannot be read (and written, for a write lock), is the same as the other, or has a lock of
+/// another program that excludes this one. `NotFound`: the log's path names another file by the time home is opened.
+pub(crate) fn open_pair<'a, L: FileLock, R: Files<File = File>>(
     rt: &R,
     paths: LogPaths<'a>,
-) -> Result<LogPair, Unopened<'a>> {
-    let log = match open_locked(rt, paths.log) {
+) -> Result<LockedPair<L>, Unopened<'a>> {
+    let log: LockedFile<L> = match open_locked(rt, paths.log, None) {
         Ok(log) => log,
         Err(error) => return Err(Unopened::new(paths.log, error)),
     };
-    let home = match open_home_of(rt, paths.home, log.file()) {
+    let home = match open_locked(rt, paths.home, Some(log.file())) {
         Ok(home) => home,
         Err(error) => return Err(Unopened::new(paths.home, error)),
     };
@@ -290,235 +351,226 @@ pub fn open_pair<'a, R: Files<File = File>>(
     }
 }
 
-/// Opens an existing file to read and write, and locks it.
-fn open_locked<R: Files<File = File>>(rt: &R, path: &str) -> io::Result<LockedFile<WriteLock>> {
-    take(rt, path, open_there(rt, path)?)
-}
-
-/// Opens and locks an existing home area's file, which must not be this log's.
-fn open_home_of<R: Files<File = File>>(
+/// Opens an existing file, which must differ from the other, and takes its lock.
+fn open_locked<L: FileLock, R: Files<File = File>>(
     rt: &R,
     path: &str,
-    log: &RegularFile,
-) -> io::Result<LockedFile<WriteLock>>
-    ensures { IfOk result (λ home. AreApart log.now home.file) }
+    other: Option<&RegularFile>,
+) -> io::Result<LockedFile<L>>
+    ensures { IfOk result (λ locked. IfSome other.entry (λ other. AreApart other.now locked.file)) }
 {
-    let home = open_there(rt, path)?.other_than(log)?;
-    take(rt, path, home)
-}
-
-/// Opens a log's two distinct files to read, and takes each one's read lock as it opens it.
-///
-/// # Errors
-///
-/// The first file that is no regular one, cannot be read, is the same as the other, or is written by another program.
-pub fn open_pair_to_read<'a, R: Files<File = File>>(
-    rt: &R,
-    paths: LogPaths<'a>,
-) -> Result<ReadPair, Unopened<'a>> {
-    let log = match open_shared(rt, paths.log) {
-        Ok(log) => log,
-        Err(error) => return Err(Unopened::new(paths.log, error)),
-    };
-    match open_shared_home(rt, paths.home, log.file()) {
-        Ok(home) => Ok(LockedPair::new(log, home)),
-        Err(error) => Err(Unopened::new(paths.home, error)),
+    let file = L::open(rt, path)?;
+    match other {
+        Some(other) => L::take(rt, path, file.other_than(other)?),
+        None => L::take(rt, path, file),
     }
 }
 
-/// Opens an existing file to read, and takes its read lock.
-fn open_shared<R: Files<File = File>>(rt: &R, path: &str) -> io::Result<LockedFile<ReadLock>> {
-    take_shared(rt, open_to_read(rt, path)?)
+/// What is wanted of a file that is opened to write.
+#[derive(Clone, Copy)]
+enum WantedFile {
+    /// It is made if it is missing.
+    Any,
+    /// So is this, and it is no block device.
+    File,
+    /// It is made; one that exists is refused.
+    New,
+    /// It exists, and stays.
+    Kept(KeptHome),
 }
 
-/// Opens an existing home area's file to read, which must not be this log's, and takes its read lock.
-fn open_shared_home<R: Files<File = File>>(
-    rt: &R,
-    path: &str,
-    log: &RegularFile,
-) -> io::Result<LockedFile<ReadLock>>
-    ensures { IfOk result (λ home. AreApart log.now home.file) }
-{
-    take_shared(rt, open_to_read(rt, path)?.other_than(log)?)
+/// What is wanted of a home area that exists and stays.
+#[derive(Clone, Copy)]
+pub struct KeptHome {
+    /// The fewest bytes that it has.
+    pub bytes: u64,
+    /// Whether it has to be a block device.
+    pub is_device: bool,
 }
 
-/// Opens a log's two files to read and write, makes each that is missing, and locks both. The two files and this script are distinct. Their
-/// content stays. Their folders are synced, so that a crash keeps their names.
+/// What is wanted of a log's two files that are opened to write; they differ from this script.
+#[derive(Clone, Copy)]
+struct WantedPair<'a> {
+    log: WantedFile,
+    home: WantedFile,
+    script: Option<&'a RegularFile>,
+}
+
+/// Opens a log's two files to read and write, makes each that is missing, and locks both. They are distinct, and their content stays. Their
+/// folders are synced, so that a crash keeps their names. Home may be a block device only `with_home_device`.
 ///
 /// # Errors
 ///
-/// The first of the two that is refused: it is no regular file, cannot be read and written or made, is another of the three, is locked by
-/// another program, or its folder cannot be synced. Nothing is made if either path already shows that it will be refused. A made file
-/// stays: another program may use it by then, with a log in it.
+/// The first of the two that is refused: it is neither a regular file nor a block device that may be opened, cannot be read and written or
+/// made, is the other, is locked by another program, is a block device that something else uses, or its folder cannot be synced. Nothing is
+/// made if either path already shows that it will be refused. A made file stays: another program may use it by then, with a log in it. With
+/// `has_to_be_new` `AlreadyExists`: the file exists, or has bytes before it is locked.
 pub fn open_or_make_pair<'a, R: Files<File = File>>(
     rt: &R,
     paths: LogPaths<'a>,
-    script: Option<&RegularFile>,
+    has_to_be_new: bool,
+    with_home_device: bool,
 ) -> Result<LogPair, Unopened<'a>>
-    ensures { IfOk result (λ pair. IfSome script.entry (λ script. AreApart script.now pair.log.file × AreApart script.now pair.home.file)) }
+    ensures { IfOk result (λ pair. has_to_be_new ≡ true → (pair.log.file.is_made ≡ true) × (pair.home.file.is_made ≡ true)) }
 {
-    claim_pair(rt, paths, script, false)
+    let (log, home) = match (has_to_be_new, with_home_device) {
+        (true, _) => (WantedFile::New, WantedFile::New),
+        (false, true) => (WantedFile::Any, WantedFile::Any),
+        (false, false) => (WantedFile::Any, WantedFile::File),
+    };
+    claim_pair(
+        rt,
+        paths,
+        WantedPair {
+            log,
+            home,
+            script: None,
+        },
+    )
 }
 
-/// Makes a log's two files to read and write, and locks both. Their folders are synced.
+/// Opens or makes two files for a log as `open_or_make_pair` does, neither of them a block device, nor this script.
 ///
 /// # Errors
 ///
-/// Those of `open_or_make_pair`; `AlreadyExists`: the file exists, or has bytes before it is locked.
-pub fn make_pair<'a, R: Files<File = File>>(
+/// Those of `open_or_make_pair`; or a path names the script's file.
+pub fn open_or_make_image<'a, R: Files<File = File>>(
     rt: &R,
     paths: LogPaths<'a>,
+    script: &RegularFile,
 ) -> Result<LogPair, Unopened<'a>>
-    ensures { IfOk result (λ pair. (pair.log.file.is_made ≡ true) × (pair.home.file.is_made ≡ true)) }
+    ensures { IfOk result (λ pair. AreApart script.now pair.log.file × AreApart script.now pair.home.file) }
 {
-    claim_pair(rt, paths, None, true)
+    claim_pair(
+        rt,
+        paths,
+        WantedPair {
+            log: WantedFile::File,
+            home: WantedFile::File,
+            script: Some(script),
+        },
+    )
 }
 
-/// Opens a log's two files and makes each that is missing; with `has_to_be_new` both must be made.
+/// Opens a log's file, or makes it, and opens the home area, which must exist as is wanted. They are distinct, opened to read and write, and
+/// locked. Their content stays. Their folders are synced.
+///
+/// # Errors
+///
+/// Those of `open_or_make_pair`, where `has_to_be_new` is of the log alone; or home is missing, too short, or no device where it has to be.
+pub fn open_or_make_log<'a, R: Files<File = File>>(
+    rt: &R,
+    paths: LogPaths<'a>,
+    home: KeptHome,
+    has_to_be_new: bool,
+) -> Result<KeptPair, Unopened<'a>>
+    ensures new { IfOk result (λ kept. has_to_be_new ≡ true → kept.pair.log.file.is_made ≡ true) }
+    ensures device { IfOk result (λ kept. home.is_device ≡ true → kept.pair.home.file.identity.is_device ≡ true) }
+{
+    let log = if has_to_be_new {
+        WantedFile::New
+    } else {
+        WantedFile::Any
+    };
+    let pair = claim_pair(
+        rt,
+        paths,
+        WantedPair {
+            log,
+            home: WantedFile::Kept(home),
+            script: None,
+        },
+    )?;
+    Ok(KeptPair { pair })
+}
+
+/// Opens a log's two files to read and write, or makes them, as is wanted, and locks both. Their folders are synced.
 fn claim_pair<'a, R: Files<File = File>>(
     rt: &R,
     paths: LogPaths<'a>,
-    script: Option<&RegularFile>,
-    has_to_be_new: bool,
+    wanted: WantedPair<'_>,
 ) -> Result<LogPair, Unopened<'a>>
-    ensures script { IfOk result (λ pair. IfSome script.entry (λ script. AreApart script.now pair.log.file × AreApart script.now pair.home.file)) }
-    ensures new { IfOk result (λ pair. has_to_be_new ≡ true → (pair.log.file.is_made ≡ true) × (pair.home.file.is_made ≡ true)) }
+    ensures script { IfOk result (λ pair. IfSome wanted.entry.script (λ script. AreApart script.now pair.log.file × AreApart script.now pair.home.file)) }
+    ensures log { IfOk result (λ pair. IsAsWanted wanted.entry.log pair.log.file) }
+    ensures home { IfOk result (λ pair. IsAsWanted wanted.entry.home pair.home.file) }
 {
-    for path in [paths.log, paths.home] {
-        if let Err(error) = require_place(rt, path) {
+    for (path, of_it) in [(paths.log, wanted.log), (paths.home, wanted.home)] {
+        if let Err(error) = require_wanted(rt, path, of_it) {
             return Err(Unopened::new(path, error));
         }
     }
-    match claim(rt, paths.log, script, None, has_to_be_new) {
-        Ok(log) => claim_home(rt, paths, script, log, has_to_be_new),
+    match claim(rt, paths.log, wanted.log, wanted.script, None) {
+        Ok(log) => claim_home(rt, paths, wanted, log),
         Err(refused) => Err(Unopened::of_log(paths.log, refused)),
     }
 }
 
-/// Opens the home area's file after the log's, and makes it if it is missing.
+/// Fails if a path already shows that its file is not as wanted. Opens and makes nothing.
+fn require_wanted<R: Files<File = File>>(rt: &R, path: &str, wanted: WantedFile) -> io::Result<()> {
+    match wanted {
+        WantedFile::Any | WantedFile::New => require_place(rt, path),
+        WantedFile::File => require_file_place(rt, path),
+        WantedFile::Kept(home) => require_kept(rt, path, home.bytes),
+    }
+}
+
+/// Opens the home area's file after the log's, or makes it, as is wanted.
 fn claim_home<'a, R: Files<File = File>>(
     rt: &R,
     paths: LogPaths<'a>,
-    script: Option<&RegularFile>,
-    log: Opened<'a, LockedFile<WriteLock>>,
-    has_to_be_new: bool,
+    wanted: WantedPair<'_>,
+    log: OpenedFile<'a, LockedFile<WriteLock>>,
 ) -> Result<LogPair, Unopened<'a>>
     ensures log { IfOk result (λ pair. pair.log ≡ log.entry.file) }
-    ensures new { IfOk result (λ pair. has_to_be_new ≡ true → pair.home.file.is_made ≡ true) }
-    ensures script { IfOk result (λ pair. IfSome script.entry (λ script. AreApart script.now pair.home.file)) }
+    ensures home { IfOk result (λ pair. IsAsWanted wanted.entry.home pair.home.file) }
+    ensures script { IfOk result (λ pair. IfSome wanted.entry.script (λ script. AreApart script.now pair.home.file)) }
 {
-    match claim(rt, paths.home, script, Some(log.file.file()), has_to_be_new) {
+    match claim(
+        rt,
+        paths.home,
+        wanted.home,
+        wanted.script,
+        Some(log.file.file()),
+    ) {
         Ok(home) => named(rt, paths, log, home),
         Err(refused) => Err(Unopened::of_home(paths.home, refused, log)),
     }
 }
 
-/// Opens a log's file, or makes it, and opens the home area's file, which must exist with at least `home_bytes` bytes. They are distinct,
-/// opened to read and write, and locked. Their content stays. Their folders are synced.
-///
-/// # Errors
-///
-/// The first of the two that is refused: it is no regular file, cannot be read and written or made, is the other, is locked by another
-/// program, or its folder cannot be synced; or home is missing or too short. Nothing is made if either path already shows that it will be
-/// refused. A made log stays, as for `open_or_make_pair`.
-pub fn open_or_make_log<'a, R: Files<File = File>>(
-    rt: &R,
-    paths: LogPaths<'a>,
-    home_bytes: u64,
-) -> Result<KeptPair, Unopened<'a>> {
-    claim_log(rt, paths, home_bytes, false)
-}
-
-/// Makes a log's file, and opens the home area's file as `open_or_make_log` does.
-///
-/// # Errors
-///
-/// Those of `open_or_make_log`; `AlreadyExists`: the log exists, or has bytes before it is locked.
-pub fn make_log<'a, R: Files<File = File>>(
-    rt: &R,
-    paths: LogPaths<'a>,
-    home_bytes: u64,
-) -> Result<KeptPair, Unopened<'a>>
-    ensures { IfOk result (λ kept. kept.pair.log.file.is_made ≡ true) }
-{
-    claim_log(rt, paths, home_bytes, true)
-}
-
-/// Opens a log's file or makes it, and opens a home area that is kept; with `has_to_be_new` the log must be made.
-fn claim_log<'a, R: Files<File = File>>(
-    rt: &R,
-    paths: LogPaths<'a>,
-    home_bytes: u64,
-    has_to_be_new: bool,
-) -> Result<KeptPair, Unopened<'a>>
-    ensures { IfOk result (λ kept. has_to_be_new ≡ true → kept.pair.log.file.is_made ≡ true) }
-{
-    if let Err(error) = require_place(rt, paths.log) {
-        return Err(Unopened::new(paths.log, error));
-    }
-    if let Err(error) = require_kept(rt, paths.home, home_bytes) {
-        return Err(Unopened::new(paths.home, error));
-    }
-    match claim(rt, paths.log, None, None, has_to_be_new) {
-        Ok(log) => keep_home(rt, paths, home_bytes, log),
-        Err(refused) => Err(Unopened::of_log(paths.log, refused)),
-    }
-}
-
-/// Opens the file of a kept home area after the log's.
-fn keep_home<'a, R: Files<File = File>>(
-    rt: &R,
-    paths: LogPaths<'a>,
-    bytes: u64,
-    log: Opened<'a, LockedFile<WriteLock>>,
-) -> Result<KeptPair, Unopened<'a>>
-    ensures { IfOk result (λ kept. kept.pair.log ≡ log.entry.file) }
-{
-    match open_kept_home(rt, paths.home, log.file.file(), bytes) {
-        Ok(file) => {
-            let pair = named(rt, paths, log, Opened { file, made: None })?;
-            Ok(KeptPair { pair })
-        }
-        Err(error) => Err(Unopened::of_home(paths.home, Unclaimed::from(error), log)),
-    }
-}
-
-/// Opens and locks an existing home area's file of at least `bytes` bytes, which must not be this log's.
-fn open_kept_home<R: Files<File = File>>(
-    rt: &R,
-    path: &str,
-    log: &RegularFile,
-    bytes: u64,
-) -> io::Result<LockedFile<WriteLock>>
-    ensures { IfOk result (λ home. AreApart log.now home.file) }
-{
-    let home = open_home_of(rt, path, log)?;
-    home.file().require_bytes(bytes)?;
-    Ok(home)
-}
-
-/// Opens a log's file or makes it, distinct from these others, and locks it. With `has_to_be_new` it must be made, and be empty.
+/// Opens a log's file or makes it, as is wanted, distinct from these others, and locks it.
 fn claim<'a, R: Files<File = File>>(
     rt: &R,
     path: &'a str,
+    wanted: WantedFile,
     script: Option<&RegularFile>,
     log: Option<&RegularFile>,
-    has_to_be_new: bool,
-) -> Result<Opened<'a, LockedFile<WriteLock>>, Unclaimed<'a>>
+) -> Result<OpenedFile<'a, LockedFile<WriteLock>>, Unclaimed<'a>>
     ensures script { IfOk result (λ claimed. IfSome script.entry (λ script. AreApart script.now claimed.file.file)) }
     ensures log { IfOk result (λ claimed. IfSome log.entry (λ log. AreApart log.now claimed.file.file)) }
-    ensures new { IfOk result (λ claimed. has_to_be_new ≡ true → claimed.file.file.is_made ≡ true) }
+    ensures wanted { IfOk result (λ claimed. IsAsWanted wanted claimed.file.file) }
 {
-    let opened = match open_or_make(rt, path, has_to_be_new) {
+    let opened = match open_wanted(rt, path, wanted) {
         Ok(opened) => opened,
         Err(refused) => return Err(refused_beside(rt, path, log, refused)),
     };
     let opened = apart_from(script, opened)?;
     let claimed = locked(rt, path, apart_from(log, opened)?)?;
-    if has_to_be_new {
-        empty(claimed)
-    } else {
-        Ok(claimed)
+    match require_bytes_of(claimed.file.file(), wanted) {
+        Ok(()) => Ok(claimed),
+        Err(error) => Err(Unclaimed {
+            error,
+            made: claimed.stays(),
+        }),
+    }
+}
+
+/// Fails if a locked file has not the bytes that are wanted; a new one has none: another program may have used it between its making and
+/// its lock.
+fn require_bytes_of(file: &RegularFile, wanted: WantedFile) -> io::Result<()> {
+    match wanted {
+        WantedFile::Any | WantedFile::File => Ok(()),
+        WantedFile::New => file.require_empty(),
+        WantedFile::Kept(home) => file.require_bytes(home.bytes),
     }
 }
 
@@ -538,32 +590,17 @@ fn refused_beside<'a, R: Files<File = File>>(
     }
 }
 
-/// The same file if it is empty under its lock: another program may have used it between its making and its lock.
-fn empty<'a>(
-    claimed: Opened<'a, LockedFile<WriteLock>>,
-) -> Result<Opened<'a, LockedFile<WriteLock>>, Unclaimed<'a>>
-    ensures { IfOk result (λ same. same ≡ claimed.entry) }
-{
-    match claimed.file.file().require_empty() {
-        Ok(()) => Ok(claimed),
-        Err(error) => Err(Unclaimed {
-            error,
-            made: claimed.stays(),
-        }),
-    }
-}
-
 /// Locks a file that was opened by this path.
 fn locked<'a, R: Files<File = File>>(
     rt: &R,
     path: &str,
-    opened: Opened<'a, RegularFile>,
-) -> Result<Opened<'a, LockedFile<WriteLock>>, Unclaimed<'a>>
+    opened: OpenedFile<'a, RegularFile>,
+) -> Result<OpenedFile<'a, LockedFile<WriteLock>>, Unclaimed<'a>>
     ensures { IfOk result (λ locked. locked.file.file ≡ opened.entry.file) }
 {
-    let Opened { file, made } = opened;
+    let OpenedFile { file, made } = opened;
     match take(rt, path, file) {
-        Ok(file) => Ok(Opened { file, made }),
+        Ok(file) => Ok(OpenedFile { file, made }),
         Err(error) => Err(Unclaimed {
             error,
             made: path_of(made),
@@ -571,19 +608,44 @@ fn locked<'a, R: Files<File = File>>(
     }
 }
 
-/// Opens a file to read and write, or makes it. Its content stays. With `has_to_be_new` it must be made.
-fn open_or_make<'a, R: Files<File = File>>(
+/// Opens a file to read and write, or makes it, as is wanted. Its content stays.
+fn open_wanted<'a, R: Files<File = File>>(
     rt: &R,
     path: &'a str,
-    has_to_be_new: bool,
-) -> Result<Opened<'a, RegularFile>, Unclaimed<'a>>
-    ensures { IfOk result (λ opened. has_to_be_new ≡ true → opened.file.is_made ≡ true) }
+    wanted: WantedFile,
+) -> Result<OpenedFile<'a, RegularFile>, Unclaimed<'a>>
+    ensures { IfOk result (λ opened. IsAsWanted wanted opened.file) }
 {
-    if has_to_be_new {
-        return made(rt, path);
+    match wanted {
+        WantedFile::New => made(rt, path),
+        WantedFile::Kept(home) => {
+            let file = open_there(rt, path)?;
+            if home.is_device && !file.is_device() {
+                return Err(Unclaimed::from(no_device()));
+            }
+            Ok(OpenedFile { file, made: None })
+        }
+        WantedFile::Any => there_or_made(rt, path),
+        WantedFile::File => {
+            let opened = there_or_made(rt, path)?;
+            if opened.file.is_device() {
+                return Err(Unclaimed {
+                    error: no_regular_file(),
+                    made: opened.stays(),
+                });
+            }
+            Ok(opened)
+        }
     }
+}
+
+/// Opens a file to read and write, or makes it if it is missing.
+fn there_or_made<'a, R: Files<File = File>>(
+    rt: &R,
+    path: &'a str,
+) -> Result<OpenedFile<'a, RegularFile>, Unclaimed<'a>> {
     match open_there(rt, path) {
-        Ok(file) => Ok(Opened { file, made: None }),
+        Ok(file) => Ok(OpenedFile { file, made: None }),
         Err(e) if e.kind() == ErrorKind::NotFound => made(rt, path),
         Err(e) => Err(Unclaimed::from(e)),
     }
@@ -593,11 +655,11 @@ fn open_or_make<'a, R: Files<File = File>>(
 fn made<'a, R: Files<File = File>>(
     rt: &R,
     path: &'a str,
-) -> Result<Opened<'a, RegularFile>, Unclaimed<'a>>
+) -> Result<OpenedFile<'a, RegularFile>, Unclaimed<'a>>
     ensures { IfOk result (λ opened. opened.file.is_made ≡ true) }
 {
     let (file, made) = make(rt, path)?;
-    Ok(Opened {
+    Ok(OpenedFile {
         file,
         made: Some(made),
     })
@@ -606,8 +668,8 @@ fn made<'a, R: Files<File = File>>(
 /// This file, if it differs from the other.
 fn apart_from<'a>(
     other: Option<&RegularFile>,
-    opened: Opened<'a, RegularFile>,
-) -> Result<Opened<'a, RegularFile>, Unclaimed<'a>>
+    opened: OpenedFile<'a, RegularFile>,
+) -> Result<OpenedFile<'a, RegularFile>, Unclaimed<'a>>
     ensures same { IfOk result (λ same. same ≡ opened.entry) }
     ensures apart { IfOk result (λ apart. IfSome other.entry (λ other. AreApart other.now apart.file)) }
 {
@@ -625,8 +687,8 @@ fn apart_from<'a>(
 fn named<'a, R: Files<File = File>>(
     rt: &R,
     paths: LogPaths<'a>,
-    log: Opened<'a, LockedFile<WriteLock>>,
-    home: Opened<'a, LockedFile<WriteLock>>,
+    log: OpenedFile<'a, LockedFile<WriteLock>>,
+    home: OpenedFile<'a, LockedFile<WriteLock>>,
 ) -> Result<LogPair, Unopened<'a>>
     requires { AreApart log.file.file home.file.file }
     ensures { IfOk result (λ pair. (pair.log ≡ log.entry.file) × (pair.home ≡ home.entry.file)) }

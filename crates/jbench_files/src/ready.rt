@@ -14,6 +14,12 @@ use std::io;
 use std::io::ErrorKind;
 use std::os::unix::fs::FileExt;
 
+/// Where the superblock has s_blocksize.
+pub(crate) const BLOCK_SIZE_PLACE: u64 = 0x0c;
+
+/// Where the superblock has s_maxlen.
+const BLOCKS_PLACE: u64 = 0x10;
+
 /// Where the superblock has s_start.
 const START_PLACE: u64 = 0x1c;
 
@@ -99,14 +105,29 @@ impl ReadyLog {
     }
 }
 
-/// How many bytes of a log an opening relies on: a clean log's superblock, all of any other log, and none if this is no log. (A clean log's
-/// ring has only transactions below the next number, of which only headers are read.)
+/// How many bytes of a log an opening relies on: a clean log's superblock, all blocks that any other one says it has, and none if this is no
+/// log. (A clean log's ring has only transactions below the next number, of which only headers are read.)
 fn relied_on(log: &File) -> io::Result<u64> {
     if number_at(log, 0)? != Some(u32::from_be_bytes(MAGIC)) {
         return Ok(0);
     }
     match number_at(log, START_PLACE)? {
         Some(0) => Ok(MOST_BYTES),
+        _ => bytes_of(log),
+    }
+}
+
+/// How many bytes the blocks of a log have by its superblock, and at least one block's.
+fn bytes_of(log: &File) -> io::Result<u64> {
+    match (
+        number_at(log, BLOCK_SIZE_PLACE)?,
+        number_at(log, BLOCKS_PLACE)?,
+    ) {
+        (Some(size), Some(blocks)) => Ok(
+            u64::from(size)
+                .saturating_mul(u64::from(blocks))
+                .max(MOST_BYTES),
+        ),
         _ => Ok(u64::MAX),
     }
 }

@@ -1,50 +1,101 @@
-//! Opens regular files, keeps their content, and tells them apart.
+//! Opens regular files and block devices, keeps their content, and tells them apart.
 ghost use Rattle.std.specs.Prelude.{◌≡◌, ◌≤◌, ◌↔◌, false, true, IfOk, IsOk};
 ghost use Rattle.std.specs.Fs.{asks_create_new, asks_truncate, metadata_len};
 ghost use Rattle.jbench_files.specs.Apart.{AreApart};
 
+use crate::nodes::{DeviceNumber, physical_sector_of, sector_of, text_of};
+use file_device::length_of;
 use std::fs::{File, Files, Metadata, OpenOptions};
 use std::io::ErrorKind;
 use std::os::unix::fs::{FileTypeExt, MetadataExt};
 use std::path::Path;
 use std::{fs, io};
 
-/// The system's identity of a file. Two files that exist at once differ in it.
+/// The system's identity of a file. Two that exist at once differ in it. A block device has one under all its nodes.
 #[derive(Clone, Copy, Debug, PartialEq, Eq)]
 pub struct Identity {
-    device: u64,
+    is_device: bool,
+    /// The block device, or the one that a file's file system is on.
+    device: DeviceNumber,
+    /// A file's inode; 0 for a block device.
     inode: u64,
 }
 
 impl Identity {
     pub(crate) fn of(metadata: &Metadata) -> Identity {
-        Identity {
-            device: metadata.dev(),
-            inode: metadata.ino(),
+        if metadata.file_type().is_block_device() {
+            Identity {
+                is_device: true,
+                device: DeviceNumber::of(metadata.rdev()),
+                inode: 0,
+            }
+        } else {
+            Identity {
+                is_device: false,
+                device: DeviceNumber::of(metadata.dev()),
+                inode: metadata.ino(),
+            }
         }
     }
 
-    /// The major number of its device.
-    pub(crate) fn major(self) -> u64 {
-        (self.device >> 8) & 0xfff | (self.device >> 32) & 0xffff_f000
-    }
-
-    /// The minor number of its device.
-    pub(crate) fn minor(self) -> u64 {
-        self.device & 0xff | (self.device >> 12) & 0xffff_ff00
-    }
-
-    /// Its inode on that device.
-    pub(crate) fn inode(self) -> u64 {
-        self.inode
+    /// Bytes of a logical sector, if it is a block device, or else 0.
+    fn sector<R: Files<File = File>>(self, rt: &R) -> u64 {
+        if self.is_device {
+            sector_of(rt, self.device)
+        } else {
+            0
+        }
     }
 }
 
-/// An open regular file and its identity. A script's file may be a pipe.
+/// Bytes of a sector of a block device.
+#[derive(Clone, Copy, Debug, PartialEq, Eq)]
+pub struct Sectors {
+    /// The least that the device reads or writes.
+    pub logical: u64,
+    /// The least that the disk itself writes.
+    pub physical: u64,
+}
+
+/// The sectors of the block device at a path, as the system tells them; `None` if none is there.
+pub fn sectors_at<R: Files<File = File>>(rt: &R, path: &str) -> Option<Sectors> {
+    match fs::metadata(rt, path) {
+        Ok(metadata) if metadata.file_type().is_block_device() => {
+            let device = DeviceNumber::of(metadata.rdev());
+            Some(Sectors {
+                logical: sector_of(rt, device),
+                physical: physical_sector_of(rt, device),
+            })
+        }
+        _ => None,
+    }
+}
+
+/// Where the system keeps the locks of a file: its inode, or that of the node that a device was opened by.
+#[derive(Clone, Copy)]
+pub(crate) struct LockPlace {
+    /// The device that its file system is on.
+    pub(crate) device: DeviceNumber,
+    pub(crate) inode: u64,
+}
+
+impl LockPlace {
+    fn of(metadata: &Metadata) -> LockPlace {
+        LockPlace {
+            device: DeviceNumber::of(metadata.dev()),
+            inode: metadata.ino(),
+        }
+    }
+}
+
+/// An open regular file or block device, and its identity. A script's file may be a pipe.
 #[derive(Drop)]
 pub struct RegularFile {
     pub(crate) file: File,
     pub(crate) identity: Identity,
+    pub(crate) place: LockPlace,
+    /// Bytes of a logical sector, of a block device.
+    sector: u64,
     /// This program made the file; only `open_new` sets it.
     is_made: bool,
 }
@@ -54,19 +105,45 @@ impl RegularFile {
     ///
     /// # Errors
     ///
-    /// It is no regular file, or the system has no data on it.
-    fn of(file: File, is_made: bool) -> io::Result<RegularFile>
+    /// It is neither a regular file nor a block device, or the system has no data on it.
+    fn of<R: Files<File = File>>(rt: &R, file: File, is_made: bool) -> io::Result<RegularFile>
         ensures { IfOk result (λ regular. regular.is_made ≡ is_made) }
     {
         let metadata = file.metadata()?;
-        if !metadata.is_file() {
-            return Err(no_regular_file());
-        }
+        require_storage(&metadata)?;
+        let identity = Identity::of(&metadata);
         Ok(RegularFile {
             file,
-            identity: Identity::of(&metadata),
+            identity,
+            place: LockPlace::of(&metadata),
+            sector: identity.sector(rt),
             is_made,
         })
+    }
+
+    /// Whether it is a block device.
+    pub(crate) fn is_device(&self) -> bool
+        ensures { result ≡ self.now.identity.is_device }
+    {
+        self.identity.is_device
+    }
+
+    /// Its number, if it is a block device.
+    pub(crate) fn device(&self) -> Option<DeviceNumber> {
+        if self.is_device() {
+            Some(self.identity.device)
+        } else {
+            None
+        }
+    }
+
+    /// Fails if it is a block device with longer logical sectors than these blocks: a crash could tear a block.
+    ///
+    /// # Errors
+    ///
+    /// `InvalidInput`: it is.
+    pub(crate) fn require_blocks(&self, size: usize) -> io::Result<()> {
+        require_sector(self.sector, size as u64)
     }
 
     /// Whether this program made it.
@@ -105,7 +182,11 @@ impl RegularFile {
     ///
     /// `InvalidInput`: it has. Otherwise the system's answer.
     pub(crate) fn require_bytes(&self, bytes: u64) -> io::Result<()> {
-        require_length(&self.file.metadata()?, bytes)
+        if self.is_device() {
+            require_room(length_of(&self.file)?, bytes)
+        } else {
+            require_length(&self.file.metadata()?, bytes)
+        }
     }
 
     /// Fails if the file has bytes: another program may have used it before it was locked.
@@ -137,6 +218,36 @@ fn require_length(metadata: &Metadata, bytes: u64) -> io::Result<()>
             ErrorKind::InvalidInput,
             "it has fewer blocks than are wanted",
         ))
+    } else {
+        Ok(())
+    }
+}
+
+/// Fails if a device has fewer bytes than are wanted.
+///
+/// # Errors
+///
+/// `InvalidInput`: it has, with both numbers.
+pub(crate) fn require_room(bytes: u64, wanted: u64) -> io::Result<()>
+    ensures { IsOk result ↔ wanted ≤ bytes }
+{
+    if bytes < wanted {
+        let line = text_of(format_args!("it has {bytes} bytes, and {wanted} are wanted"));
+        Err(io::Error::new(ErrorKind::InvalidInput, line.text()))
+    } else {
+        Ok(())
+    }
+}
+
+/// Fails if a sector is longer than a block.
+fn require_sector(sector: u64, block: u64) -> io::Result<()>
+    ensures { IsOk result ↔ sector ≤ block }
+{
+    if block < sector {
+        let line = text_of(format_args!(
+            "sectors of {sector} bytes are longer than blocks of {block}"
+        ));
+        Err(io::Error::new(ErrorKind::InvalidInput, line.text()))
     } else {
         Ok(())
     }
@@ -214,9 +325,22 @@ fn folder_of(path: &str) -> &str {
     }
 }
 
-/// The file can hold neither a log nor a script.
-fn no_regular_file() -> io::Error {
+/// The file can hold no script, nor what only a regular file may.
+pub(crate) fn no_regular_file() -> io::Error {
     io::Error::new(ErrorKind::InvalidInput, "it is no regular file")
+}
+
+/// The file can hold no log.
+fn no_storage() -> io::Error {
+    io::Error::new(
+        ErrorKind::InvalidInput,
+        "it is neither a regular file nor a block device",
+    )
+}
+
+/// The file is no block device.
+pub(crate) fn no_device() -> io::Error {
+    io::Error::new(ErrorKind::InvalidInput, "it is no block device")
 }
 
 /// One file was given for two.
@@ -224,13 +348,13 @@ pub(crate) fn given_twice() -> io::Error {
     io::Error::new(ErrorKind::InvalidInput, "it is given twice")
 }
 
-/// Opens a regular file to read. The kind is tested first, as opening a pipe would wait for its writer.
+/// Opens a regular file or block device to read. The kind is tested first, as opening a pipe would wait for its writer.
 ///
 /// # Errors
 ///
-/// The path names no regular file, or it cannot be read.
+/// The path names neither, or it cannot be read.
 pub fn open_to_read<R: Files<File = File>>(rt: &R, path: &str) -> io::Result<RegularFile> {
-    require_regular(rt, path)?;
+    require_storage(&fs::metadata(rt, path)?)?;
     open_as(rt, OpenOptions::new().read(true), path)
 }
 
@@ -244,10 +368,12 @@ pub(crate) fn open_input<R: Files<File = File>>(rt: &R, path: &str) -> io::Resul
     let place = if is_input { STANDARD_INPUT } else { path };
     require_text(&fs::metadata(rt, place)?, is_input)?;
     let file = OpenOptions::new().read(true).open(rt, place)?;
-    let identity = Identity::of(&file.metadata()?);
+    let metadata = file.metadata()?;
     Ok(RegularFile {
         file,
-        identity,
+        identity: Identity::of(&metadata),
+        place: LockPlace::of(&metadata),
+        sector: 0,
         is_made: false,
     })
 }
@@ -262,13 +388,13 @@ fn require_text(metadata: &Metadata, is_input: bool) -> io::Result<()> {
     }
 }
 
-/// Opens a regular file to read and write. Its content stays.
+/// Opens a regular file or block device to read and write. Its content stays.
 ///
 /// # Errors
 ///
-/// The path names no regular file, or it cannot be read and written.
+/// The path names neither, or it cannot be read and written.
 pub(crate) fn open_there<R: Files<File = File>>(rt: &R, path: &str) -> io::Result<RegularFile> {
-    require_regular(rt, path)?;
+    require_storage(&fs::metadata(rt, path)?)?;
     open_as(rt, OpenOptions::new().read(true).write(true), path)
 }
 
@@ -301,7 +427,7 @@ fn open_new<'a, R: Files<File = File>>(
     ensures { IfOk result (λ r. r.0.is_made ≡ true) }
 {
     let file = how.open(rt, path)?;
-    match RegularFile::of(file, true) {
+    match RegularFile::of(rt, file, true) {
         Ok(file) => Ok((file, Made { path })),
         Err(error) => Err(Unclaimed {
             error,
@@ -314,30 +440,46 @@ fn open_new<'a, R: Files<File = File>>(
 fn open_as<R: Files<File = File>>(rt: &R, how: &OpenOptions, path: &str) -> io::Result<RegularFile>
     requires { asks_truncate how.now ≡ false }
 {
-    RegularFile::of(how.open(rt, path)?, false)
+    RegularFile::of(rt, how.open(rt, path)?, false)
 }
 
-/// Fails if the path names no regular file. Opens nothing.
-fn require_regular<R: Files<File = File>>(rt: &R, path: &str) -> io::Result<()> {
-    if fs::metadata(rt, path)?.is_file() {
+/// Fails if the file of these data is neither a regular file nor a block device.
+fn require_storage(metadata: &Metadata) -> io::Result<()> {
+    if metadata.is_file() || metadata.file_type().is_block_device() {
         Ok(())
     } else {
-        Err(no_regular_file())
+        Err(no_storage())
     }
 }
 
-/// Fails if the path names no regular file, and none can be made for lack of a folder. Opens and makes nothing.
+/// Whether the path names a block device now.
+pub fn names_device<R: Files<File = File>>(rt: &R, path: &str) -> bool {
+    match fs::metadata(rt, path) {
+        Ok(metadata) => metadata.file_type().is_block_device(),
+        Err(_) => false,
+    }
+}
+
+/// Fails if the path names neither a regular file nor a block device, and no file can be made for lack of a folder. Opens and makes nothing.
 ///
 /// # Errors
 ///
 /// The path names another kind of file; its folder is missing. Otherwise the system's answer.
 pub(crate) fn require_place<R: Files<File = File>>(rt: &R, path: &str) -> io::Result<()> {
-    match require_regular(rt, path) {
+    match fs::metadata(rt, path) {
         Err(e) if e.kind() == ErrorKind::NotFound && !path.is_empty() => {
             require_folder(rt, folder_of(path))
         }
-        looked => looked,
+        looked => require_storage(&looked?),
     }
+}
+
+/// As `require_place`, for a path that may not name a block device.
+pub(crate) fn require_file_place<R: Files<File = File>>(rt: &R, path: &str) -> io::Result<()> {
+    if names_device(rt, path) {
+        return Err(no_regular_file());
+    }
+    require_place(rt, path)
 }
 
 /// Fails if the path names no folder.
@@ -349,7 +491,7 @@ fn require_folder<R: Files<File = File>>(rt: &R, path: &str) -> io::Result<()> {
     }
 }
 
-/// Fails if the path names no regular file of at least this many bytes. Opens nothing.
+/// Fails if the path names no block device, and no regular file of at least this many bytes. Opens nothing.
 ///
 /// # Errors
 ///
@@ -359,6 +501,11 @@ pub(crate) fn require_kept<R: Files<File = File>>(
     path: &str,
     bytes: u64,
 ) -> io::Result<()> {
-    require_regular(rt, path)?;
-    require_length(&fs::metadata(rt, path)?, bytes)
+    let metadata = fs::metadata(rt, path)?;
+    require_storage(&metadata)?;
+    if metadata.is_file() {
+        require_length(&metadata, bytes)
+    } else {
+        Ok(())
+    }
 }

@@ -1,7 +1,7 @@
 //! Reads a script's text, up to a limit: the writer to a pipe may never end.
 //!
 //! Contracts name a script's text by the bytes that came, and by the path that they came from. No proof sees what a call on a file does, so
-//! read `open_text` and `Text::read`: one that opened another file, or kept other bytes, would prove as well.
+//! read `open_text` and `ScriptText::read`: one that opened another file, or kept other bytes, would prove as well.
 ghost use Rattle.std.specs.Prelude.{◌≡◌, [], IfOk, IfSome, OnErr, OnOk, string_bytes};
 ghost use Rattle.jbench_files.specs.Apart.{AreApart};
 
@@ -61,18 +61,18 @@ pub fn open_text<'a, R: Files<File = File>>(rt: &R, path: &'a str) -> io::Result
 
 /// A text that was read to its end, and the path that it came from. Before that both are empty.
 #[derive(Drop)]
-pub struct Text {
+pub struct ScriptText {
     path: String,
     bytes: Vec<u8>,
 }
 
-impl Text {
+impl ScriptText {
     /// No text so far.
-    pub fn new(alloc: Global) -> Text
+    pub fn new(alloc: Global) -> ScriptText
         ensures path { string_bytes result.path ≡ [] }
         ensures bytes { result.bytes.items ≡ [] }
     {
-        Text {
+        ScriptText {
             path: String::new(alloc),
             bytes: Vec::new(alloc),
         }
@@ -85,13 +85,13 @@ impl Text {
     }
 
     /// All that a reader gives, as it came from this path.
-    fn of<R: Read + Drop>(alloc: Global, path: &str, reader: R) -> Result<Text, Fault>
+    fn of<R: Read + Drop>(alloc: Global, path: &str, reader: R) -> Result<ScriptText, Fault>
         ensures path { IfOk result (λ text. string_bytes text.path ≡ path.now) }
         ensures bytes { IfOk result (λ text. IfSome (R.remaining reader) (λ bytes. text.bytes.items ≡ bytes)) }
     {
         let bytes = read_text(alloc, reader)?;
         match String::from_str(alloc, path) {
-            Ok(path) => Ok(Text { path, bytes }),
+            Ok(path) => Ok(ScriptText { path, bytes }),
             Err(e) => Err(Fault::of_file(io::Error::from(e))),
         }
     }
@@ -106,7 +106,7 @@ impl Text {
         ensures kept { OnErr result (self.new ≡ self.old) }
     {
         let TextFile { path, file } = script;
-        *self = Text::of(alloc, path, Limited::new(file.into_file()))?;
+        *self = ScriptText::of(alloc, path, Limited::new(file.into_file()))?;
         Ok(())
     }
 

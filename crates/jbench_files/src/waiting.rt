@@ -1,5 +1,6 @@
 //! Waits for a log's files that another program has locked.
-use crate::pairs::{LogPair, ReadPair, Unopened, open_pair, open_pair_to_read};
+use crate::locked::FileLock;
+use crate::pairs::{LockedPair, Unopened, open_pair};
 use jbench_words::words::LogPaths;
 use std::fs::{File, Files};
 use std::thread;
@@ -11,16 +12,18 @@ const PAUSE: u64 = 100;
 /// Pauses in a second.
 const PAUSES: u64 = 10;
 
-/// Opens a log's two files as `open_pair` does. If another program has one, it tries again, for `seconds` seconds.
+/// Opens a log's two distinct files, and takes each one's lock as it opens it; their content stays. If another program has a lock that
+/// excludes this one, it tries again, for `seconds` seconds.
 ///
 /// # Errors
 ///
-/// Those of the last try.
-pub fn open_pair_within<'a, R: Files<File = File> + Clock>(
+/// Those of the last try: the first file that is no regular one, cannot be read (and written, for a write lock), is the same as the other,
+/// or has such a lock. `NotFound`: the log's path names another file by the time home is opened.
+pub fn open_pair_within<'a, L: FileLock, R: Files<File = File> + Clock>(
     rt: &R,
     paths: LogPaths<'a>,
     seconds: u64,
-) -> Result<LogPair, Unopened<'a>> {
+) -> Result<LockedPair<L>, Unopened<'a>> {
     for _ in 0..seconds.saturating_mul(PAUSES) {
         match open_pair(rt, paths) {
             Err(unopened) if unopened.is_held() => pause(rt),
@@ -28,25 +31,6 @@ pub fn open_pair_within<'a, R: Files<File = File> + Clock>(
         }
     }
     open_pair(rt, paths)
-}
-
-/// Opens a log's two files as `open_pair_to_read` does. If another program writes one, it tries again, for `seconds` seconds.
-///
-/// # Errors
-///
-/// Those of the last try.
-pub fn open_pair_to_read_within<'a, R: Files<File = File> + Clock>(
-    rt: &R,
-    paths: LogPaths<'a>,
-    seconds: u64,
-) -> Result<ReadPair, Unopened<'a>> {
-    for _ in 0..seconds.saturating_mul(PAUSES) {
-        match open_pair_to_read(rt, paths) {
-            Err(unopened) if unopened.is_held() => pause(rt),
-            opened => return opened,
-        }
-    }
-    open_pair_to_read(rt, paths)
 }
 
 /// Sleeps until the next try.

@@ -1,5 +1,6 @@
 //! Makes a shell complete the program's words.
-use crate::usage::{Usage, Word, commands};
+use crate::usage::{Usage, commands};
+use crate::words::Word;
 use std::io;
 use std::io::Write;
 

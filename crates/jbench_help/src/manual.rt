@@ -1,6 +1,7 @@
 //! The program's page for `man`.
 use crate::parser::VERSION;
-use crate::usage::{PROGRAM, Usage, Word, commands};
+use crate::usage::{PROGRAM, Usage, commands};
+use crate::words::Word;
 use std::io;
 use std::io::Write;
 

@@ -1,5 +1,6 @@
 //! The program and its commands as `clap` has them.
-use crate::usage::{PROGRAM, Usage, Word, commands, usage_named};
+use crate::usage::{PROGRAM, Usage, commands, usage_named};
+use crate::words::Word;
 use clap::{Arg, ArgAction, Command};
 use std::alloc::{AllocError, Global};
 

@@ -1,4 +1,5 @@
-//! The help texts of the program, its commands, and their words.
+//! The help texts of the program and its commands, with the words that one command alone has.
+use crate::words::{HOME, JSON, LOG, SCRIPT, WAIT, Word};
 
 /// A command's help.
 pub(crate) struct Usage {
@@ -9,15 +10,6 @@ pub(crate) struct Usage {
     pub(crate) after_help: &'static str,
     /// The words after it.
     pub(crate) words: &'static [Word],
-}
-
-/// A command's word: a required value, an option `--NAME` with a value, or a flag `--NAME`.
-pub(crate) struct Word {
-    pub(crate) name: &'static str,
-    /// The value's name in the help; empty for a flag.
-    pub(crate) value: &'static str,
-    pub(crate) is_option: bool,
-    pub(crate) help: &'static str,
 }
 
 pub(crate) const PROGRAM: Usage = Usage {
@@ -100,12 +92,7 @@ the log; 2 verdict false.
 
 Example: jbench run examples/one_write.json --stop 4 --keep 4",
     words: &[
-        Word {
-            name: "script",
-            value: "SCRIPT",
-            is_option: false,
-            help: "The file that holds the script, or - for standard input",
-        },
+        SCRIPT,
         Word {
             name: "stop",
             value: "K",
@@ -148,12 +135,7 @@ Example: jbench run examples/one_write.json --stop 4 --keep 4",
             is_option: true,
             help: "The file that gets the home area of the image; with --image-log [default: none]",
         },
-        Word {
-            name: "json",
-            value: "",
-            is_option: true,
-            help: "Print one JSON object",
-        },
+        JSON,
     ],
 };
 
@@ -187,24 +169,14 @@ script; 2 an F is not 0.
 
 Example: jbench sweep examples/two_blocks.json --fail",
     words: &[
-        Word {
-            name: "script",
-            value: "SCRIPT",
-            is_option: false,
-            help: "The file that holds the script, or - for standard input",
-        },
+        SCRIPT,
         Word {
             name: "fail",
             value: "",
             is_option: true,
             help: "Let each device call of the script fail in turn, too",
         },
-        Word {
-            name: "json",
-            value: "",
-            is_option: true,
-            help: "Print one JSON object",
-        },
+        JSON,
     ],
 };
 
@@ -226,12 +198,7 @@ Exit status: 0 the script is good; 1 it is not, or the words or the file were
 refused.
 
 Example: jbench check examples/two_blocks.json",
-    words: &[Word {
-        name: "script",
-        value: "SCRIPT",
-        is_option: false,
-        help: "The file that holds the script, or - for standard input",
-    }],
+    words: &[SCRIPT],
 };
 
 pub(crate) const THREADS: Usage = Usage {
@@ -270,12 +237,7 @@ Exit status: 0 done, all verdicts ok; 1 refused: the words, the file, the
 script, or a client; 2 a verdict is false.
 
 Example: jbench threads examples/two_clients.json",
-    words: &[Word {
-        name: "script",
-        value: "SCRIPT",
-        is_option: false,
-        help: "The file that holds the script, or - for standard input",
-    }],
+    words: &[SCRIPT],
 };
 
 pub(crate) const FORMAT: Usage = Usage {
@@ -306,23 +268,20 @@ this program alone: nothing is claimed of others.
 With --keep-home HOME stays as it is, byte for byte, and is synced. It must
 exist, with N blocks or more (default: 1).
 
+LOG and HOME may be block devices. A device keeps its length: the log has its
+first M blocks, and the home area is all of it, whatever N says. HOME is then
+kept, unless --zero-home has zeros written over all of it. A device that shows a
+file system, a volume or a partition table is kept, unless --force is given, or
+--keep-home if it is HOME. One that is mounted, is swap, or is part of another
+device is refused, and so are blocks shorter than its logical sectors.
+
 Exit status: 0 done; 1 refused: the words, a file, the log that LOG holds, or
 the device.
 
 Example: jbench format log home --block 4096 --length 1024",
     words: &[
-        Word {
-            name: "log",
-            value: "LOG",
-            is_option: false,
-            help: "The file of the log",
-        },
-        Word {
-            name: "home_file",
-            value: "HOME",
-            is_option: false,
-            help: "The file of the home area",
-        },
+        LOG,
+        HOME,
         Word {
             name: "block",
             value: "B",
@@ -371,6 +330,18 @@ Example: jbench format log home --block 4096 --length 1024",
             is_option: true,
             help: "Make the log even if that loses transactions: those that are not home, or what a refused log holds",
         },
+        Word {
+            name: "zero-home",
+            value: "",
+            is_option: true,
+            help: "Write zeros over all of a block device that is HOME; not with --keep-home",
+        },
+        Word {
+            name: "force",
+            value: "",
+            is_option: true,
+            help: "Make the log even if a block device shows that another program keeps something there",
+        },
     ],
 };
 
@@ -404,12 +375,7 @@ Examples:
   jbench dump log
   jbench dump log --copy 8",
     words: &[
-        Word {
-            name: "log",
-            value: "LOG",
-            is_option: false,
-            help: "The file of the log",
-        },
+        LOG,
         Word {
             name: "damaged",
             value: "",
@@ -422,12 +388,7 @@ Examples:
             is_option: true,
             help: "Print the bytes of the copy in this block of LOG, in hex; not with --damaged or --json",
         },
-        Word {
-            name: "json",
-            value: "",
-            is_option: true,
-            help: "Print one JSON object",
-        },
+        JSON,
     ],
 };
 
@@ -446,18 +407,8 @@ such block.
 
 Example: jbench cat log home 9 | xxd",
     words: &[
-        Word {
-            name: "log",
-            value: "LOG",
-            is_option: false,
-            help: "The file of the log",
-        },
-        Word {
-            name: "home_file",
-            value: "HOME",
-            is_option: false,
-            help: "The file of the home area",
-        },
+        LOG,
+        HOME,
         Word {
             name: "block",
             value: "BLOCK",
@@ -498,20 +449,7 @@ Exit status: 0 done, whatever the superblock is; 1 refused: the words, the file,
 or a log without a whole block.
 
 Example: jbench show log",
-    words: &[
-        Word {
-            name: "log",
-            value: "LOG",
-            is_option: false,
-            help: "The file of the log",
-        },
-        Word {
-            name: "json",
-            value: "",
-            is_option: true,
-            help: "Print one JSON object",
-        },
-    ],
+    words: &[LOG, JSON],
 };
 
 pub(crate) const RECOVER: Usage = Usage {
@@ -563,18 +501,8 @@ Examples:
   jbench recover log home
   jbench recover log home --before-damage --dry-run",
     words: &[
-        Word {
-            name: "log",
-            value: "LOG",
-            is_option: false,
-            help: "The file of the log",
-        },
-        Word {
-            name: "home_file",
-            value: "HOME",
-            is_option: false,
-            help: "The file of the home area",
-        },
+        LOG,
+        HOME,
         Word {
             name: "before-damage",
             value: "",
@@ -587,18 +515,8 @@ Examples:
             is_option: true,
             help: "Write nothing, and tell what would be done",
         },
-        Word {
-            name: "wait",
-            value: "SECONDS",
-            is_option: true,
-            help: "Wait at most so long for a file that another program has, 1 to 86400 [default: not at all]",
-        },
-        Word {
-            name: "json",
-            value: "",
-            is_option: true,
-            help: "Print one JSON object",
-        },
+        WAIT,
+        JSON,
     ],
 };
 
@@ -621,12 +539,7 @@ disk first, and then call it again.
 Exit status: 0 done; 1 refused: the words, the file, or the log.
 
 Example: jbench upgrade log",
-    words: &[Word {
-        name: "log",
-        value: "LOG",
-        is_option: false,
-        help: "The file of the log",
-    }],
+    words: &[LOG],
 };
 
 pub(crate) const APPLY: Usage = Usage {
@@ -671,24 +584,9 @@ Example: blocks 9 and 10 of the home area change together:
   jbench format log home
   jbench apply log home examples/two_blocks.json",
     words: &[
-        Word {
-            name: "log",
-            value: "LOG",
-            is_option: false,
-            help: "The file of the log",
-        },
-        Word {
-            name: "home_file",
-            value: "HOME",
-            is_option: false,
-            help: "The file of the home area",
-        },
-        Word {
-            name: "script",
-            value: "SCRIPT",
-            is_option: false,
-            help: "The file that holds the script, or - for standard input",
-        },
+        LOG,
+        HOME,
+        SCRIPT,
         Word {
             name: "stay",
             value: "",
@@ -707,12 +605,7 @@ Example: blocks 9 and 10 of the home area change together:
             is_option: true,
             help: "If the log has no room for a commit, bring home what is committed, and then do it",
         },
-        Word {
-            name: "wait",
-            value: "SECONDS",
-            is_option: true,
-            help: "Wait at most so long for a file that another program has, 1 to 86400 [default: not at all]",
-        },
+        WAIT,
         Word {
             name: "json",
             value: "",
@@ -758,18 +651,8 @@ Exit status: 0 done; 1 refused: the words, a file, the log, or the device.
 
 Example: jbench bench log home --seconds 10 --copies 4",
     words: &[
-        Word {
-            name: "log",
-            value: "LOG",
-            is_option: false,
-            help: "The file of the log",
-        },
-        Word {
-            name: "home_file",
-            value: "HOME",
-            is_option: false,
-            help: "The file of the home area",
-        },
+        LOG,
+        HOME,
         Word {
             name: "seconds",
             value: "N",
@@ -800,12 +683,7 @@ Example: jbench bench log home --seconds 10 --copies 4",
             is_option: true,
             help: "Print a line of column names and one of values, with commas",
         },
-        Word {
-            name: "wait",
-            value: "SECONDS",
-            is_option: true,
-            help: "Wait at most so long for a file that another program has, 1 to 86400 [default: not at all]",
-        },
+        WAIT,
     ],
 };
 
@@ -824,7 +702,8 @@ A write of no more blocks than a transaction can have is there whole after a
 crash, or not at all. That is about a quarter of the log; the export's
 description says how many blocks. A longer one is several such writes, in order.
 What was answered before a flush was sent is durable once the flush is answered.
-So is an answered write with FUA. docs/BLOCK-DEVICE.md says how to connect.
+So is an answered write with FUA. What no flush asks for is committed within the
+commit interval. docs/BLOCK-DEVICE.md says how to connect.
 
 Exit status: 0 the client ended between two messages; 1 refused: the words, a
 file, the log, or the device; or the client ended within a message, could not be
@@ -833,18 +712,8 @@ read or written, or sent no NBD.
 Example:
   nbdsh -c 'h.connect_command([\"jbench\", \"serve\", \"log\", \"home\"])' -c 'print(h.get_size())'",
     words: &[
-        Word {
-            name: "log",
-            value: "LOG",
-            is_option: false,
-            help: "The file of the log",
-        },
-        Word {
-            name: "home_file",
-            value: "HOME",
-            is_option: false,
-            help: "The file of the home area",
-        },
+        LOG,
+        HOME,
         Word {
             name: "read-only",
             value: "",
@@ -858,11 +727,12 @@ Example:
             help: "The name of the export, which is the default one too [default: the empty name]",
         },
         Word {
-            name: "wait",
+            name: "commit-interval",
             value: "SECONDS",
             is_option: true,
-            help: "Wait at most so long for a file that another program has, 1 to 86400 [default: not at all]",
+            help: "Commit what was answered so long after at the latest, 0 to 86400; 0: once much waits [default: 5]",
         },
+        WAIT,
     ],
 };
 

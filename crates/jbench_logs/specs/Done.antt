@@ -5,7 +5,7 @@ use Rattle.journal_model.specs.declared.number.Area.TheVariants.{Home}
 use Rattle.journal_model.specs.declared.refusal.JournalError.{JournalError}
 use Rattle.journal_model.specs.Disk.{Disk, Shape, flushed, reading}
 use Rattle.log_model.specs.declared.log.Text.{Text}
-use Rattle.block_device.specs.State.{DeviceState, Stays}
+use Rattle.block_device.specs.State.{DeviceState, EachMoment, Stays}
 use Rattle.journal_world.specs.Opening.{IsOpening}
 use Rattle.log_epochs.specs.OpeningRun.{IsMoment}
 use Rattle.recovery.specs.Making.{IsMakingMoment}
@@ -15,7 +15,7 @@ use Rattle.recovery.specs.Upgrade.{IsUpgradeBroken, IsUpgraded}
 use Rattle.damaged_logs.specs.Before.{BeforeRefused, IsMomentBefore, IsOpeningBefore, TellsBefore}
 use Rattle.damaged_logs.specs.BeforeSteps.{HasDoneBefore}
 use Rattle.damaged_logs.specs.Planned.{IsPlannedBefore}
-use Rattle.jbench_logs.specs.declared.damage.Taken.{Taken}
+use Rattle.jbench_logs.specs.declared.damage.TakenLog.{TakenLog}
 use Rattle.jbench_logs.specs.declared.plans.Planned.{Planned}
 use Rattle.jbench_logs.specs.Said.{recovered_text}
 
@@ -63,7 +63,7 @@ abbrev pub IsUpgradeLeft : DeviceState → DeviceState → Type 0
 IsUpgradeLeft old new = HasUpgraded old new ⊎ IsUpgradeBroken old new
 
 -- an opening in spite of damage took these transactions, and this is the report on them
-pub record IsTakenBefore (old new : DeviceState) (taken : Taken) : Type 0 where
+pub record IsTakenBefore (old new : DeviceState) (taken : TakenLog) : Type 0 where
   pub texts : List Text
   pub greatest : ℕ
   pub superblock : List ℕ
@@ -73,7 +73,7 @@ pub record IsTakenBefore (old new : DeviceState) (taken : Taken) : Type 0 where
 
 -- an opening in spite of damage was done
 pub record IsRecoveredBefore (old new : DeviceState) : Type 0 where
-  pub taken : Taken
+  pub taken : TakenLog
   pub is : IsTakenBefore old new taken
 
 -- an opening would do this, in spite of damage or not
@@ -93,10 +93,17 @@ abbrev pub IsRefusalOf : (before_damage : Bool) → (honest : Type 0) → Device
 IsRefusalOf true honest old new e = BeforeRefused honest old new e
 IsRefusalOf false honest old new e = OpeningRefused honest old new e
 
--- a fact of each moment of an opening, in spite of damage or not
-abbrev pub IsMomentOf : (before_damage : Bool) → Shape → Disk → Disk → Type 0
-IsMomentOf true shape old disk = IsMomentBefore shape old disk
-IsMomentOf false shape old disk = IsMoment shape old disk
+-- what `recover` did, by its options
+abbrev pub Recovers : (dry_run before_damage : Bool) → DeviceState → DeviceState → Type 0
+Recovers true before_damage old new = IsFoundOut before_damage old
+Recovers false true old new = IsRecoveredBefore old new
+Recovers false false old new = IsRecovered old new
+
+-- what it goes through, by its options, also where it is refused: the moments of its opening, if reads were correct; a dry run only reads
+abbrev pub PassesAs : (dry_run before_damage : Bool) → (honest : Type 0) → DeviceState → DeviceState → Type 0
+PassesAs true before_damage honest old new = Stays old new
+PassesAs false true honest old new = honest → EachMoment (IsMomentBefore old.shape old.disk) old new
+PassesAs false false honest old new = honest → EachMoment (IsMoment old.shape old.disk) old new
 
 -- an opening of a device in this state was refused for such a cause, and afterwards the device was at most read
 pub record IsRefusedBy {V : Type 0} (Refusal : (honest : Type 0) → DeviceState → DeviceState → JournalError → Type 0) (state : V → DeviceState) (honest : V → Type 0) (old : DeviceState) (new : V) : Type 0 where

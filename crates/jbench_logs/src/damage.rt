@@ -2,14 +2,14 @@
 ghost use Rattle.std.specs.Prelude.{◌≡◌, ◌≢◌, IfErr, IfOk, MatchResult};
 ghost use Rattle.block_device.specs.State.{EachMoment};
 ghost use Rattle.damaged_logs.specs.Before.{BeforeRefused, IsMomentBefore};
-ghost use Rattle.jbench_words.specs.declared.fault.Status.TheVariants.{Fine, Refused};
+ghost use Rattle.jbench_words.specs.declared.fault.CommandStatus.TheVariants.{Fine, Refused};
 ghost use Rattle.jbench_logs.specs.Done.{IsRecoveredBefore, IsRefusedBy, IsTakenBefore};
 
 use crate::logs::{number_left, refuse, say_last, write_left};
 use crate::objects::{begin_found, write_refusal};
 use crate::watched::Watched;
 use block_device::Device;
-use jbench_words::fault::Status;
+use jbench_words::fault::CommandStatus;
 use jbench_words::watch::Watch;
 use jbench_words::words::RecoverWords;
 use journal_model::{JournalError, Tid};
@@ -20,7 +20,7 @@ use std::io::Write;
 
 /// What was taken of a log.
 #[derive(Drop)]
-pub struct Taken {
+pub struct TakenLog {
     /// Which transactions were taken.
     pub report: Report,
     /// The next transaction's number.
@@ -29,7 +29,7 @@ pub struct Taken {
     pub stopped_by: Option<JournalError>,
 }
 
-impl Taken {
+impl TakenLog {
     /// Whether the opening wrote the next number into the log.
     fn is_written(&self) -> bool {
         is_number_written(self.report, self.stopped_by)
@@ -49,14 +49,14 @@ pub(crate) fn is_number_written(report: Report, stopped_by: Option<JournalError>
 /// # Errors
 ///
 /// The output could not be written.
-pub fn recover_before_damage<D: Device + Drop, H: Watch + Drop, W: Write, E: Write + Drop>(
+pub(crate) fn recover_before_damage<D: Device + Drop, H: Watch + Drop, W: Write, E: Write + Drop>(
     alloc: Global,
     words: &RecoverWords<'_>,
     device: D,
     watch: H,
     out: &mut W,
     err: E,
-) -> io::Result<(Status, D)>
+) -> io::Result<(CommandStatus, D)>
     ensures recovered { IfOk result (λ done. done.0 ≡ Fine → D.honest done.1 → IsRecoveredBefore (D.state device) (D.state done.1)) }
     ensures refused { IfOk result (λ done. done.0 ≢ Fine → (done.0 ≡ Refused) × IsRefusedBy BeforeRefused D.state D.honest (D.state device) done.1) }
     // Whatever the answer: each moment is one of such an opening.
@@ -67,7 +67,7 @@ pub fn recover_before_damage<D: Device + Drop, H: Watch + Drop, W: Write, E: Wri
         Ok((device, taken)) => {
             say_taken(words.json, &taken, out)?;
             say_last(taken.is_written(), taken.next, &mut err)?;
-            Ok((Status::Fine, device))
+            Ok((CommandStatus::Fine, device))
         }
         Err((device, e)) => {
             let mut device = device;
@@ -82,7 +82,7 @@ fn open_watched<D: Device + Drop, H: Watch + Drop>(
     alloc: Global,
     device: D,
     watch: H,
-) -> Result<(D, Taken), (D, JournalError)>
+) -> Result<(D, TakenLog), (D, JournalError)>
     ensures opened { IfOk result (λ opened. D.honest opened.0 → IsTakenBefore (D.state device) (D.state opened.0) opened.1) }
     ensures refused { IfErr result (λ e. BeforeRefused (D.honest e.0) (D.state device) (D.state e.0) e.1) }
     ensures moments { MatchResult result
@@ -91,7 +91,7 @@ fn open_watched<D: Device + Drop, H: Watch + Drop>(
 {
     match damaged_logs::open_before_damage(alloc, Watched::new(device, watch)) {
         Ok((opened, stopped_by)) => {
-            let taken = Taken {
+            let taken = TakenLog {
                 report: opened.report(),
                 next: opened.next(),
                 stopped_by,
@@ -109,7 +109,7 @@ fn open_watched<D: Device + Drop, H: Watch + Drop>(
 }
 
 /// Prints what was taken of a log, as lines or as an object.
-fn say_taken<W: Write>(json: bool, taken: &Taken, out: &mut W) -> io::Result<()> {
+fn say_taken<W: Write>(json: bool, taken: &TakenLog, out: &mut W) -> io::Result<()> {
     let (report, is_written) = (taken.report, taken.is_written());
     if json {
         begin_found(

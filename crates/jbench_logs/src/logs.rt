@@ -9,7 +9,7 @@ ghost use Rattle.log_dump.specs.Dumping.{HasDump, shape_of};
 ghost use Rattle.log_epochs.specs.OpeningRun.{IsMoment};
 ghost use Rattle.log_epochs.specs.UpgradeRun.{IsUpgradeMoment};
 ghost use Rattle.recovery.specs.Opening.{OpeningRefused};
-ghost use Rattle.jbench_words.specs.declared.fault.Status.TheVariants.{Fine, Refused};
+ghost use Rattle.jbench_words.specs.declared.fault.CommandStatus.TheVariants.{Fine, Refused};
 ghost use Rattle.jbench_logs.specs.Done.{HasUpgraded, IsMade, IsMakeMoment, IsOpeningTold, IsRecovered, IsRefusedBy, IsUpgradeLeft, SaysOpened};
 ghost use Rattle.jbench_logs.specs.Said.{left_line, none_line, number_left, opened_line, recovered_line, recovered_object, recovered_text};
 
@@ -17,7 +17,7 @@ use crate::objects::begin_found;
 use crate::reasons::say_why;
 use crate::watched::Watched;
 use block_device::Device;
-use jbench_words::fault::{self, Fault, Status};
+use jbench_words::fault::{self, CommandStatus, Fault};
 use jbench_words::watch::Watch;
 use jbench_words::words::RecoverWords;
 use journal_model::layout::GREATEST_NUMBER;
@@ -40,7 +40,7 @@ pub fn format<D: Device, W: Write + Drop, E: Write + Drop>(
     device: &mut D,
     out: W,
     err: E,
-) -> io::Result<Status>
+) -> io::Result<CommandStatus>
     ensures made { IfOk result (λ status. status ≡ Fine → IsMade measures.now.log_blocks measures.now.uuid measures.now.wide (D.state device.old) (D.state device.new)) }
     ensures other { IfOk result (λ status. status ≢ Fine → status ≡ Refused) }
     // Whatever the answer: home stays as it reads, and may become durable.
@@ -84,14 +84,14 @@ pub fn dump<D: Device, W: Write + Drop, E: Write + Drop>(
     device: &mut D,
     out: W,
     err: E,
-) -> io::Result<Status>
+) -> io::Result<CommandStatus>
     ensures dumped { IfOk result (λ status. status ≡ Fine → D.honest device.new → HasDump (shape_of (D.state device.old)) (reading (D.state device.old).disk)) }
     ensures other { IfOk result (λ status. status ≢ Fine → status ≡ Refused) }
     ensures stays { Stays (D.state device.old) (D.state device.new) }
 {
     let mut err = err;
     match dump_device(alloc, device, out) {
-        Ok(()) => Ok(Status::Fine),
+        Ok(()) => Ok(CommandStatus::Fine),
         Err(fault) => refuse_fault(alloc, path, device, fault, &mut err),
     }
 }
@@ -118,14 +118,14 @@ fn dump_device<D: Device, W: Write + Drop>(
 /// # Errors
 ///
 /// The output could not be written.
-pub fn recover<D: Device + Drop, H: Watch + Drop, W: Write, E: Write + Drop>(
+pub(crate) fn recover<D: Device + Drop, H: Watch + Drop, W: Write, E: Write + Drop>(
     alloc: Global,
     words: &RecoverWords<'_>,
     device: D,
     watch: H,
     out: &mut W,
     err: E,
-) -> io::Result<(Status, D)>
+) -> io::Result<(CommandStatus, D)>
     ensures recovered { IfOk result (λ done. done.0 ≡ Fine → D.honest done.1 → IsRecovered (D.state device) (D.state done.1)) }
     ensures says { IfOk result (λ done. done.0 ≡ Fine → SaysOpened words.now.json (D.honest done.1) (D.state device) (D.state done.1) (W.contents out.old) (W.contents out.new)) }
     ensures refused { IfOk result (λ done. done.0 ≢ Fine → (done.0 ≡ Refused) × IsRefusedBy OpeningRefused D.state D.honest (D.state device) done.1) }
@@ -137,7 +137,7 @@ pub fn recover<D: Device + Drop, H: Watch + Drop, W: Write, E: Write + Drop>(
         Ok((device, report, next)) => {
             say_recovered(words.json, report, next, out)?;
             say_last(!report.clean, next, &mut err)?;
-            Ok((Status::Fine, device))
+            Ok((CommandStatus::Fine, device))
         }
         Err((device, e)) => {
             let mut device = device;
@@ -187,7 +187,7 @@ pub fn upgrade<D: Device, W: Write + Drop, E: Write + Drop>(
     device: &mut D,
     out: W,
     err: E,
-) -> io::Result<Status>
+) -> io::Result<CommandStatus>
     ensures upgraded { IfOk result (λ status. status ≡ Fine → D.honest device.new → HasUpgraded (D.state device.old) (D.state device.new)) }
     ensures other { IfOk result (λ status. status ≢ Fine → status ≡ Refused) }
     // Whatever the answer: nothing else was written, and only in this order.
@@ -224,7 +224,7 @@ pub fn refuse<D: Device>(
     device: &mut D,
     e: JournalError,
     err: &mut impl Write,
-) -> io::Result<Status>
+) -> io::Result<CommandStatus>
     ensures refused { IfOk result (λ status. status ≡ Refused) }
     ensures device { OnlyReads D.state D.honest device.old device.new }
 {
@@ -244,7 +244,7 @@ pub fn refuse_fault<D: Device>(
     device: &mut D,
     fault: Fault,
     err: &mut impl Write,
-) -> io::Result<Status>
+) -> io::Result<CommandStatus>
     ensures refused { IfOk result (λ status. status ≡ Refused) }
     ensures device { OnlyReads D.state D.honest device.old device.new }
 {
@@ -374,12 +374,12 @@ pub(crate) fn end<E: Write + Drop>(
     path: &str,
     done: Result<(), Fault>,
     mut err: E,
-) -> io::Result<Status>
+) -> io::Result<CommandStatus>
     ensures fine { IfOk result (λ status. status ≡ Fine → IsOk done) }
     ensures other { IfOk result (λ status. status ≢ Fine → status ≡ Refused) }
 {
     match done {
-        Ok(()) => Ok(Status::Fine),
+        Ok(()) => Ok(CommandStatus::Fine),
         Err(Fault::Output(e)) => Err(e),
         Err(fault) => fault::refuse(&mut err, path, &fault),
     }

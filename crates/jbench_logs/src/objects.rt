@@ -11,9 +11,9 @@ use std::{fmt, io};
 
 /// A transaction number, or null if none is left.
 #[derive(Clone, Copy)]
-struct Value(Option<Tid>);
+struct TidOrNull(Option<Tid>);
 
-impl fmt::Display for Value {
+impl fmt::Display for TidOrNull {
     ghost use Rattle.std.specs.Prelude.{Some};
     ghost use Rattle.jbench_logs.specs.Said.{value_text};
 
@@ -36,7 +36,7 @@ pub(crate) fn begin_found<W: Write>(
 ) -> io::Result<()>
     ensures { OnOk result (Appends (W.contents out.old) (W.contents out.new) (found_members found.now report.clean report.ends_at report.transactions next)) }
 {
-    let value = Value(next);
+    let value = TidOrNull(next);
     if report.clean {
         write!(out, "{{\"outcome\":\"clean\",\"next\":{value}")
     } else {

@@ -2,7 +2,7 @@
 ghost use Rattle.std.specs.Prelude.{◌≡◌, ◌≢◌, IfErr, IfOk, true, false};
 ghost use Rattle.block_device.specs.Call.{OnlyReads};
 ghost use Rattle.block_device.specs.State.{Stays};
-ghost use Rattle.jbench_words.specs.declared.fault.Status.TheVariants.{Fine, Refused};
+ghost use Rattle.jbench_words.specs.declared.fault.CommandStatus.TheVariants.{Fine, Refused};
 ghost use Rattle.jbench_logs.specs.Done.{IsFoundOut, IsPlanOf, IsRefusalOf, IsRefusedBy};
 
 use crate::damage::{is_number_written, say_stopped, write_stopped};
@@ -12,7 +12,7 @@ use crate::reasons::say_why;
 use crate::watched::Watched;
 use block_device::Device;
 use damaged_logs::plan_before_damage;
-use jbench_words::fault::Status;
+use jbench_words::fault::CommandStatus;
 use jbench_words::watch::Watch;
 use jbench_words::words::RecoverWords;
 use journal_model::JournalError;
@@ -43,14 +43,14 @@ impl Planned {
 /// # Errors
 ///
 /// The output could not be written.
-pub fn plan<D: Device + Drop, H: Watch + Drop, W: Write, E: Write + Drop>(
+pub(crate) fn plan<D: Device + Drop, H: Watch + Drop, W: Write, E: Write + Drop>(
     alloc: Global,
     words: &RecoverWords<'_>,
     device: D,
     watch: H,
     out: &mut W,
     err: E,
-) -> io::Result<(Status, D)>
+) -> io::Result<(CommandStatus, D)>
     ensures stays { IfOk result (λ done. Stays (D.state device) (D.state done.1)) }
     ensures planned { IfOk result (λ done. done.0 ≡ Fine → D.honest done.1 → IsFoundOut words.now.before_damage (D.state device)) }
     ensures refused { IfOk result (λ done. done.0 ≢ Fine → (done.0 ≡ Refused) × IsRefusedBy (IsRefusalOf words.now.before_damage) D.state D.honest (D.state device) done.1) }
@@ -63,7 +63,7 @@ pub fn plan<D: Device + Drop, H: Watch + Drop, W: Write, E: Write + Drop>(
         Ok(planned) => {
             say_plan(alloc, words.json, &mut device, &planned, out)?;
             say_last(planned.writes_number(), planned.plan.next, &mut err)?;
-            Ok((Status::Fine, device))
+            Ok((CommandStatus::Fine, device))
         }
         Err(e) => {
             let status = refuse(alloc, path, &mut device, e, &mut err)?;

@@ -18,13 +18,13 @@ const LEAST_RING: u32 = 16;
 #[derive(Clone, Copy)]
 pub(crate) struct Field<'a> {
     pub(crate) name: &'static str,
-    pub(crate) value: Value<'a>,
-    pub(crate) failed: Option<Failed>,
+    pub(crate) value: FieldValue<'a>,
+    pub(crate) failed: Option<FailedTest>,
 }
 
 /// A field's value.
 #[derive(Clone, Copy)]
-pub(crate) enum Value<'a> {
+pub(crate) enum FieldValue<'a> {
     Number(u32),
     Bytes(&'a [u8]),
     /// The bits of a field of features, and the features that have names.
@@ -33,14 +33,14 @@ pub(crate) enum Value<'a> {
 
 /// The test that a field fails: the refusal of an opening, and what is wanted.
 #[derive(Clone, Copy)]
-pub(crate) struct Failed {
+pub(crate) struct FailedTest {
     pub(crate) refusal: JournalError,
     pub(crate) wanted: &'static str,
 }
 
 impl<'a> Field<'a> {
     /// A field with this value.
-    fn new(name: &'static str, value: Value<'a>) -> Field<'a> {
+    fn new(name: &'static str, value: FieldValue<'a>) -> Field<'a> {
         Field {
             name,
             value,
@@ -50,7 +50,7 @@ impl<'a> Field<'a> {
 
     /// A number field.
     fn number(name: &'static str, number: u32) -> Field<'a> {
-        Field::new(name, Value::Number(number))
+        Field::new(name, FieldValue::Number(number))
     }
 
     /// This field with its test by an opening.
@@ -58,7 +58,7 @@ impl<'a> Field<'a> {
         let failed = if passes {
             None
         } else {
-            Some(Failed { refusal, wanted })
+            Some(FailedTest { refusal, wanted })
         };
         Field { failed, ..self }
     }
@@ -94,7 +94,7 @@ pub(crate) fn fields_of<'a>(
 fn push_header<'a>(list: &mut Vec<Field<'a>>, bytes: &'a [u8]) -> Result<(), AllocError>
     requires { 1024 ≤ length bytes.now }
 {
-    list.push(Field::new("h_magic", Value::Bytes(&bytes[..4])).tested(
+    list.push(Field::new("h_magic", FieldValue::Bytes(&bytes[..4])).tested(
         bytes.starts_with(&MAGIC),
         JournalError::BadMagic,
         "c03b3998",
@@ -156,21 +156,21 @@ fn push_tail(list: &mut Vec<Field<'_>>, fields: &Super) -> Result<(), AllocError
 /// Adds the fields of features.
 fn push_features(list: &mut Vec<Field<'_>>, fields: &Super) -> Result<(), AllocError> {
     let compatible = fields.s_feature_compat;
-    let value = Value::Features(compatible, COMPATIBLE);
+    let value = FieldValue::Features(compatible, COMPATIBLE);
     list.push(Field::new("s_feature_compat", value).tested(
         compatible == 0,
         JournalError::BadFeature,
         "0",
     ))?;
     let incompatible = fields.s_feature_incompat;
-    let value = Value::Features(incompatible, INCOMPATIBLE);
+    let value = FieldValue::Features(incompatible, INCOMPATIBLE);
     list.push(Field::new("s_feature_incompat", value).tested(
         incompatible == REVOKE || incompatible == REVOKE | WIDE_NUMBERS,
         JournalError::BadFeature,
         "0x1, revoke, or 0x3, with 64bit",
     ))?;
     let read_only = fields.s_feature_ro_compat;
-    let value = Value::Features(read_only, READ_ONLY_COMPATIBLE);
+    let value = FieldValue::Features(read_only, READ_ONLY_COMPATIBLE);
     list.push(Field::new("s_feature_ro_compat", value).tested(
         read_only == 0,
         JournalError::BadFeature,
@@ -187,7 +187,7 @@ fn push_users<'a>(
 ) -> Result<(), AllocError>
     requires { 1024 ≤ length bytes.now }
 {
-    list.push(Field::new("s_uuid", Value::Bytes(&bytes[0x30..0x40])))?;
+    list.push(Field::new("s_uuid", FieldValue::Bytes(&bytes[0x30..0x40])))?;
     list.push(Field::number("s_nr_users", fields.s_nr_users).tested(
         fields.s_nr_users == 1,
         JournalError::BadFeature,
@@ -207,7 +207,7 @@ fn push_rest<'a>(list: &mut Vec<Field<'a>>, bytes: &'a [u8]) -> Result<(), Alloc
     list.push(Field::number("s_checksum_type", u32::from(bytes[0x50])))?;
     list.push(Field::number("s_num_fc_blks", number_at(bytes, 0x54)))?;
     list.push(Field::number("s_head", number_at(bytes, 0x58)))?;
-    list.push(Field::new("s_checksum", Value::Bytes(&bytes[0xfc..0x100])))?;
-    list.push(Field::new("s_users", Value::Bytes(&bytes[0x100..0x110])))?;
+    list.push(Field::new("s_checksum", FieldValue::Bytes(&bytes[0xfc..0x100])))?;
+    list.push(Field::new("s_users", FieldValue::Bytes(&bytes[0x100..0x110])))?;
     Ok(())
 }

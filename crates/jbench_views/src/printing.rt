@@ -3,13 +3,13 @@ ghost use Rattle.std.specs.Prelude.{◌≡◌, ◌≢◌, IfOk, None};
 ghost use Rattle.journal_model.specs.Disk.{reading};
 ghost use Rattle.block_device.specs.State.{Stays};
 ghost use Rattle.log_dump.specs.Dumping.{HasDump, shape_of};
-ghost use Rattle.jbench_words.specs.declared.fault.Status.TheVariants.{Fine, Refused};
+ghost use Rattle.jbench_words.specs.declared.fault.CommandStatus.TheVariants.{Fine, Refused};
 ghost use Rattle.jbench_views.specs.Looked.{HasCopyAt, HasDumped, PrintsLeft};
 
 use crate::object::write_object;
 use block_device::Device;
 use jbench_logs::logs;
-use jbench_words::fault::Status;
+use jbench_words::fault::CommandStatus;
 use jbench_words::words::{CatWords, DumpWords};
 use journal_model::JournalError;
 use log_dump::{Fault, dump_up_to_damage};
@@ -33,7 +33,7 @@ pub fn dump<D: Device, W: Write + Drop, E: Write + Drop>(
     device: &mut D,
     out: W,
     err: E,
-) -> io::Result<Status>
+) -> io::Result<CommandStatus>
     ensures dumped { IfOk result (λ status. status ≡ Fine → D.honest device.new → HasDumped words.now.copy (D.state device.old)) }
     ensures other { IfOk result (λ status. status ≢ Fine → status ≡ Refused) }
     ensures stays { Stays (D.state device.old) (D.state device.new) }
@@ -57,7 +57,7 @@ fn dump_lines<D: Device, W: Write + Drop, E: Write + Drop>(
     device: &mut D,
     out: W,
     err: E,
-) -> io::Result<Status>
+) -> io::Result<CommandStatus>
     ensures dumped { IfOk result (λ status. status ≡ Fine → D.honest device.new → HasDump (shape_of (D.state device.old)) (reading (D.state device.old).disk)) }
     ensures other { IfOk result (λ status. status ≢ Fine → status ≡ Refused) }
     ensures stays { Stays (D.state device.old) (D.state device.new) }
@@ -77,7 +77,7 @@ fn dump_copy<D: Device, W: Write + Drop, E: Write + Drop>(
     device: &mut D,
     out: W,
     err: E,
-) -> io::Result<Status>
+) -> io::Result<CommandStatus>
     ensures found { IfOk result (λ status. status ≡ Fine → D.honest device.new → HasCopyAt place (D.state device.old)) }
     ensures other { IfOk result (λ status. status ≢ Fine → status ≡ Refused) }
     ensures stays { Stays (D.state device.old) (D.state device.new) }
@@ -86,14 +86,14 @@ fn dump_copy<D: Device, W: Write + Drop, E: Write + Drop>(
     match copy_at(alloc, device, place) {
         Ok(Some(copy)) => {
             write_hex(copy.bytes(), &mut out)?;
-            Ok(Status::Fine)
+            Ok(CommandStatus::Fine)
         }
         Ok(None) => {
             writeln!(
                 err,
                 "jbench: file {path}\n  no complete transaction has a copy in block {place}: jbench dump LOG --damaged says where the copies are"
             )?;
-            Ok(Status::Refused)
+            Ok(CommandStatus::Refused)
         }
         Err(e) => logs::refuse(alloc, path, device, e, &mut err),
     }
@@ -117,14 +117,14 @@ fn dump_damaged<D: Device, W: Write + Drop, E: Write + Drop>(
     device: &mut D,
     out: W,
     err: E,
-) -> io::Result<Status>
+) -> io::Result<CommandStatus>
     ensures dumped { IfOk result (λ status. status ≡ Fine → D.honest device.new → HasDump (shape_of (D.state device.old)) (reading (D.state device.old).disk)) }
     ensures other { IfOk result (λ status. status ≢ Fine → status ≡ Refused) }
     ensures stays { Stays (D.state device.old) (D.state device.new) }
 {
     let mut err = err;
     match dump_buffered(alloc, device, out) {
-        Ok(None) => Ok(Status::Fine),
+        Ok(None) => Ok(CommandStatus::Fine),
         Ok(Some(place)) => logs::refuse(alloc, path, device, JournalError::Damage(place), &mut err),
         Err(Fault::Refused(e)) => logs::refuse(alloc, path, device, e, &mut err),
         Err(Fault::Output(e)) => Err(e),
@@ -161,7 +161,7 @@ pub fn cat<D: Device, W: Write, E: Write + Drop>(
     device: &mut D,
     out: &mut W,
     err: E,
-) -> io::Result<Status>
+) -> io::Result<CommandStatus>
     ensures printed { IfOk result (λ status. status ≡ Fine → PrintsLeft words.now.block (D.state device.old) (D.honest device.new) (W.contents out.old) (W.contents out.new)) }
     ensures other { IfOk result (λ status. status ≢ Fine → status ≡ Refused) }
     ensures stays { Stays (D.state device.old) (D.state device.new) }
@@ -170,7 +170,7 @@ pub fn cat<D: Device, W: Write, E: Write + Drop>(
     match block_left(alloc, device, words.block) {
         Ok(block) => {
             out.write_all(block.bytes())?;
-            Ok(Status::Fine)
+            Ok(CommandStatus::Fine)
         }
         Err(e) => logs::refuse(alloc, words.paths.log, device, e, &mut err),
     }

@@ -2,15 +2,16 @@
 //! owner's ways out.
 ghost use Rattle.std.specs.Prelude.{◌≡◌, ◌≢◌, ◌≤◌, length, IfOk};
 ghost use Rattle.block_device.specs.State.{Stays};
-ghost use Rattle.jbench_words.specs.declared.fault.Status.TheVariants.{Fine, Refused};
+ghost use Rattle.jbench_words.specs.declared.fault.CommandStatus.TheVariants.{Fine, Refused};
 
-use crate::fields::{Failed, Field, Value, fields_of};
+use crate::fields::{FailedTest, Field, FieldValue, fields_of};
 use block_device::{Device, read_block};
+use jbench_files::Sectors;
 use jbench_logs::features::{write_features, write_names};
 use jbench_logs::logs::refuse_fault;
 use jbench_logs::objects::{write_lines, write_refusal};
 use jbench_logs::ways_out::{SUPER_BYTES, Standing, print_ways_out, standing_of};
-use jbench_words::fault::{Fault, Status};
+use jbench_words::fault::{CommandStatus, Fault};
 use jbench_words::words::ShowWords;
 use journal_model::layout::GREATEST_NUMBER;
 use journal_model::{Area, Block, JournalError};
@@ -22,9 +23,9 @@ use std::{fmt, io};
 
 /// Bytes that print as hex.
 #[derive(Clone, Copy)]
-struct Hex<'a>(&'a [u8]);
+struct HexBytes<'a>(&'a [u8]);
 
-impl fmt::Display for Hex<'_> {
+impl fmt::Display for HexBytes<'_> {
     fn fmt<W: fmt::Write>(&self, f: &mut fmt::Formatter<W>) -> fmt::Result {
         for byte in self.0 {
             write!(f, "{byte:02x}")?;
@@ -33,8 +34,8 @@ impl fmt::Display for Hex<'_> {
     }
 }
 
-/// Prints the superblock of a device's log, whether an opening accepts it, and, if so, the use of the ring. Lines on `err` say that the log
-/// has no whole block, or cannot be read.
+/// Prints the sectors of the log's block device, if it is on one; the superblock of a device's log, whether an opening accepts it, and, if
+/// so, the use of the ring. Lines on `err` say that the log has no whole block, or cannot be read.
 ///
 /// # Errors
 ///
@@ -43,15 +44,16 @@ pub fn show<D: Device, W: Write + Drop, E: Write + Drop>(
     alloc: Global,
     words: &ShowWords<'_>,
     device: &mut D,
+    sectors: Option<Sectors>,
     out: W,
     err: E,
-) -> io::Result<Status>
+) -> io::Result<CommandStatus>
     ensures stays { Stays (D.state device.old) (D.state device.new) }
     ensures other { IfOk result (λ status. status ≢ Fine → status ≡ Refused) }
 {
     let (mut out, mut err) = (out, err);
-    match show_device(alloc, words.json, device, &mut out) {
-        Ok(()) => Ok(Status::Fine),
+    match show_device(alloc, words.json, device, sectors, &mut out) {
+        Ok(()) => Ok(CommandStatus::Fine),
         Err(fault) => refuse_fault(alloc, words.log, device, fault, &mut err),
     }
 }
@@ -61,6 +63,7 @@ fn show_device<D: Device, W: Write>(
     alloc: Global,
     json: bool,
     device: &mut D,
+    sectors: Option<Sectors>,
     out: &mut W,
 ) -> Result<(), Fault>
     ensures { Stays (D.state device.old) (D.state device.new) }
@@ -72,7 +75,7 @@ fn show_device<D: Device, W: Write>(
         return Err(Fault::Refused(JournalError::BadLength));
     }
     let standing = standing_of(alloc, device, bytes)?;
-    let shown = Shown::of(alloc, bytes, blocks, standing)?;
+    let shown = Shown::of(alloc, bytes, blocks, sectors, standing)?;
     if json {
         let ring = ring_of(alloc, device)?;
         write_object(&shown, ring, out)?;
@@ -92,6 +95,8 @@ struct Shown<'a> {
     blocks: u64,
     /// The bytes of a block.
     block_size: usize,
+    /// Of the block device that the log is on, if it is on one.
+    sectors: Option<Sectors>,
     fields: Vec<Field<'a>>,
     /// Why an opening refuses the log, as far as the superblock shows it.
     refusal: Option<JournalError>,
@@ -101,7 +106,13 @@ struct Shown<'a> {
 
 impl<'a> Shown<'a> {
     /// What `show` prints of these superblock bytes. `standing` is in the superblock's place; the log has `blocks` blocks.
-    fn of(alloc: Global, bytes: &'a [u8], blocks: u64, standing: Standing) -> io::Result<Shown<'a>>
+    fn of(
+        alloc: Global,
+        bytes: &'a [u8],
+        blocks: u64,
+        sectors: Option<Sectors>,
+        standing: Standing,
+    ) -> io::Result<Shown<'a>>
         requires { 1024 ≤ length bytes.now }
     {
         let refusal = refusal_of(bytes, blocks);
@@ -112,6 +123,7 @@ impl<'a> Shown<'a> {
         Ok(Shown {
             blocks,
             block_size: bytes.len(),
+            sectors,
             fields: fields_of(alloc, bytes, blocks)?,
             refusal,
             ways_out,
@@ -208,6 +220,13 @@ fn show_lines(shown: &Shown<'_>, out: &mut impl Write) -> io::Result<()> {
         "log blocks={} blocksize={}",
         shown.blocks, shown.block_size
     )?;
+    if let Some(sectors) = shown.sectors {
+        writeln!(
+            out,
+            "device logical_sector={} physical_sector={}",
+            sectors.logical, sectors.physical
+        )?;
+    }
     for field in &shown.fields {
         show_field(field, out)?;
     }
@@ -236,12 +255,12 @@ fn say_refusal(refusal: Option<JournalError>, out: &mut impl Write) -> io::Resul
 fn show_field(field: &Field<'_>, out: &mut impl Write) -> io::Result<()> {
     let name = field.name;
     match field.value {
-        Value::Number(number) => writeln!(out, "{name} {number}")?,
-        Value::Bytes(bytes) => writeln!(out, "{name} {}", Hex(bytes))?,
-        Value::Features(bits, features) => write_features(out, name, bits, features)?,
+        FieldValue::Number(number) => writeln!(out, "{name} {number}")?,
+        FieldValue::Bytes(bytes) => writeln!(out, "{name} {}", HexBytes(bytes))?,
+        FieldValue::Features(bits, features) => write_features(out, name, bits, features)?,
     }
     match field.failed {
-        Some(Failed { refusal, wanted }) => {
+        Some(FailedTest { refusal, wanted }) => {
             writeln!(
                 out,
                 "  refusal {} {}: wanted is {wanted}",
@@ -257,9 +276,11 @@ fn show_field(field: &Field<'_>, out: &mut impl Write) -> io::Result<()> {
 fn write_object(shown: &Shown<'_>, ring: Option<RingUse>, out: &mut impl Write) -> io::Result<()> {
     write!(
         out,
-        "{{\"log\":{{\"blocks\":{},\"blocksize\":{}}},\"superblock\":{{",
+        "{{\"log\":{{\"blocks\":{},\"blocksize\":{}}},\"device\":",
         shown.blocks, shown.block_size
     )?;
+    write_sectors(shown.sectors, out)?;
+    write!(out, ",\"superblock\":{{")?;
     write_fields(&shown.fields, out)?;
     write!(out, "}},\"failed\":[")?;
     write_failed(&shown.fields, out)?;
@@ -278,6 +299,18 @@ fn write_object(shown: &Shown<'_>, ring: Option<RingUse>, out: &mut impl Write) 
     writeln!(out, "}}")
 }
 
+/// Writes the sectors of a block device as an object.
+fn write_sectors(sectors: Option<Sectors>, out: &mut impl Write) -> io::Result<()> {
+    match sectors {
+        Some(sectors) => write!(
+            out,
+            "{{\"logical_sector\":{},\"physical_sector\":{}}}",
+            sectors.logical, sectors.physical
+        ),
+        None => write!(out, "null"),
+    }
+}
+
 /// Writes fields as members. The names of features follow their number.
 fn write_fields(fields: &[Field<'_>], out: &mut impl Write) -> io::Result<()> {
     let mut comma = "";
@@ -285,9 +318,9 @@ fn write_fields(fields: &[Field<'_>], out: &mut impl Write) -> io::Result<()> {
         let name = field.name;
         write!(out, "{comma}\"{name}\":")?;
         match field.value {
-            Value::Number(number) => write!(out, "{number}")?,
-            Value::Bytes(bytes) => write!(out, "\"{}\"", Hex(bytes))?,
-            Value::Features(bits, features) => {
+            FieldValue::Number(number) => write!(out, "{number}")?,
+            FieldValue::Bytes(bytes) => write!(out, "\"{}\"", HexBytes(bytes))?,
+            FieldValue::Features(bits, features) => {
                 write!(out, "{bits},\"{name}_names\":")?;
                 write_names(out, bits, features)?;
             }
@@ -301,7 +334,7 @@ fn write_fields(fields: &[Field<'_>], out: &mut impl Write) -> io::Result<()> {
 fn write_failed(fields: &[Field<'_>], out: &mut impl Write) -> io::Result<()> {
     let mut comma = "";
     for field in fields {
-        if let Some(Failed { refusal, wanted }) = field.failed {
+        if let Some(FailedTest { refusal, wanted }) = field.failed {
             write!(out, "{comma}{{\"field\":\"{}\",\"refusal\":", field.name)?;
             write_refusal(out, refusal)?;
             write!(out, ",\"wanted\":\"{wanted}\"}}")?;

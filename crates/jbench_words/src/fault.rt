@@ -1,6 +1,6 @@
 //! How a command ends, and what it prints if it cannot go on.
 ghost use Rattle.std.specs.Prelude.{◌≡◌, IfOk};
-ghost use Rattle.jbench_words.specs.declared.fault.Status.TheVariants.{Refused};
+ghost use Rattle.jbench_words.specs.declared.fault.CommandStatus.TheVariants.{Refused};
 
 use crate::advice::advice_of;
 use journal_model::JournalError;
@@ -11,7 +11,7 @@ use std::io::{ErrorKind, Write};
 use std::process::ExitCode;
 
 #[derive(Clone, Copy)]
-pub enum Status {
+pub enum CommandStatus {
     /// The command did its work: exit status 0.
     Fine,
     /// The words, a file, the script or the log was refused: exit status 1.
@@ -20,12 +20,12 @@ pub enum Status {
     VerdictFalse,
 }
 
-impl From<Status> for ExitCode {
-    fn from(status: Status) -> ExitCode {
+impl From<CommandStatus> for ExitCode {
+    fn from(status: CommandStatus) -> ExitCode {
         ExitCode::from(match status {
-            Status::Fine => 0,
-            Status::Refused => 1,
-            Status::VerdictFalse => 2,
+            CommandStatus::Fine => 0,
+            CommandStatus::Refused => 1,
+            CommandStatus::VerdictFalse => 2,
         })
     }
 }
@@ -152,11 +152,11 @@ fn report_file(err: &mut impl Write, path: &str, e: &io::Error) -> io::Result<()
 /// # Errors
 ///
 /// The lines could not be written.
-pub fn refuse(err: &mut impl Write, path: &str, fault: &Fault) -> io::Result<Status>
+pub fn refuse(err: &mut impl Write, path: &str, fault: &Fault) -> io::Result<CommandStatus>
     ensures { IfOk result (λ status. status ≡ Refused) }
 {
     match report(err, path, fault) {
-        Ok(()) => Ok(Status::Refused),
+        Ok(()) => Ok(CommandStatus::Refused),
         Err(e) => Err(e),
     }
 }
@@ -166,14 +166,14 @@ pub fn refuse(err: &mut impl Write, path: &str, fault: &Fault) -> io::Result<Sta
 /// # Errors
 ///
 /// The line could not be written.
-pub fn refuse_file(err: &mut impl Write, path: &str, e: io::Error) -> io::Result<Status>
+pub fn refuse_file(err: &mut impl Write, path: &str, e: io::Error) -> io::Result<CommandStatus>
     ensures { IfOk result (λ status. status ≡ Refused) }
 {
     refuse(err, path, &Fault::of_file(e))
 }
 
 /// Writes why the program cannot go on: memory ran out, or its output could not be written.
-pub fn refuse_rest(err: &mut impl Write, e: io::Error) -> Status {
+pub fn refuse_rest(err: &mut impl Write, e: io::Error) -> CommandStatus {
     let _ = report(err, "", &Fault::from(e));
-    Status::Refused
+    CommandStatus::Refused
 }

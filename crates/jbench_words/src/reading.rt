@@ -5,13 +5,16 @@ ghost use Rattle.log_format.specs.Size.{IsBlockSize};
 
 use crate::wanted::Wanted;
 use crate::words::{
-    ApplyWords, BenchWords, CatWords, DumpWords, FormatWords, LogPaths, OneThreadWords,
-    RecoverWords, RunWords, ServeWords, ShowWords, StopWords, SweepWords, Words,
+    ApplyWords, BenchWords, CatWords, CommandWords, DumpWords, FormatWords, LogPaths,
+    OneThreadWords, RecoverWords, RunWords, ServeWords, ShowWords, StopWords, SweepWords,
 };
 use clap::ArgMatches;
 use jbench_help::Shell;
 use journal_script::{DEFAULTS, HOMES, LENGTHS, Measures, is_block_size, limited, uuid_of};
 use std::alloc::{AllocError, Global};
+
+/// The default seconds of the commit interval: those of ext4.
+const COMMIT_INTERVAL: u64 = 5;
 
 /// The default blocks of a transaction of `bench`.
 const COPIES: u64 = 4;
@@ -157,12 +160,18 @@ fn measures_of(alloc: Global, matches: &ArgMatches<'_>, keep_home: bool) -> Resu
 
 fn format_words<'a>(alloc: Global, matches: &ArgMatches<'a>) -> Result<FormatWords<'a>, Wanted> {
     let keep_home = matches.get_flag("keep-home");
+    let zero_home = matches.get_flag("zero-home");
+    if keep_home && zero_home {
+        return Err(Wanted::KeepOrZero);
+    }
     Ok(FormatWords {
         paths: log_paths(matches),
         measures: measures_of(alloc, matches, keep_home)?,
         keep_home,
         has_to_be_new: matches.get_flag("new"),
         discards: matches.get_flag("discard"),
+        zero_home,
+        force: matches.get_flag("force"),
     })
 }
 
@@ -258,8 +267,20 @@ fn serve_words<'a>(matches: &ArgMatches<'a>) -> Result<ServeWords<'a>, Wanted> {
         paths: log_paths(matches),
         read_only: matches.get_flag("read-only"),
         export: matches.get_str("export").unwrap_or(""),
+        commit_interval: interval_told(matches)?,
         wait: wait_told(matches)?,
     })
+}
+
+/// The seconds of the commit interval.
+fn interval_told(matches: &ArgMatches<'_>) -> Result<u64, Wanted> {
+    let told = number_of(
+        matches,
+        "commit-interval",
+        (0, 86_400),
+        Wanted::CommitInterval,
+    )?;
+    Ok(told.unwrap_or(COMMIT_INTERVAL))
 }
 
 /// The most seconds to wait for locked files; 0 without the option.
@@ -283,7 +304,10 @@ fn log_told<'a>(matches: &ArgMatches<'a>) -> &'a str {
     matches.get_str("log").unwrap_or("")
 }
 
-pub(crate) fn words_of<'a>(alloc: Global, matches: &ArgMatches<'a>) -> Result<Words<'a>, Wanted> {
+pub(crate) fn words_of<'a>(
+    alloc: Global,
+    matches: &ArgMatches<'a>,
+) -> Result<CommandWords<'a>, Wanted> {
     match matches.subcommand() {
         Some((name, told)) => command_words(alloc, name, told),
         None => Err(Wanted::Command),
@@ -295,12 +319,12 @@ fn command_words<'a>(
     alloc: Global,
     name: &str,
     told: &ArgMatches<'a>,
-) -> Result<Words<'a>, Wanted> {
+) -> Result<CommandWords<'a>, Wanted> {
     match name {
-        "threads" => Ok(Words::Threads(script_told(told))),
-        "bench" => bench_words(told).map(Words::Bench),
-        "serve" => serve_words(told).map(Words::Serve),
-        _ => one_thread_words(alloc, name, told).map(Words::OneThread),
+        "threads" => Ok(CommandWords::Threads(script_told(told))),
+        "bench" => bench_words(told).map(CommandWords::Bench),
+        "serve" => serve_words(told).map(CommandWords::Serve),
+        _ => one_thread_words(alloc, name, told).map(CommandWords::OneThread),
     }
 }
 

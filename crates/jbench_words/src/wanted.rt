@@ -21,6 +21,8 @@ pub(crate) enum Wanted {
     OpeningNumbers,
     /// Both files of an image, or neither.
     ImageFiles,
+    /// Only one of `--keep-home` and `--zero-home`.
+    KeepOrZero,
     /// A block size for `--block`.
     BlockSize,
     /// A log's blocks for `--length`.
@@ -39,6 +41,8 @@ pub(crate) enum Wanted {
     Threads,
     /// Seconds for `--wait`.
     Wait,
+    /// Seconds for `--commit-interval`.
+    CommitInterval,
     /// A copy's place for `--copy`.
     Place,
     /// Only one of `--damaged` and `--copy`.
@@ -79,6 +83,7 @@ fn line_of(wanted: Wanted) -> &'static str {
         Wanted::ImageFiles => {
             "'--image-log <PATH>' and '--image-home <PATH>' are wanted together, or neither"
         }
+        Wanted::KeepOrZero => "the argument '--keep-home' cannot be used with '--zero-home'",
         Wanted::BlockSize => "invalid value for '--block <B>': 1024, 2048 or 4096 is wanted",
         Wanted::LogBlocks => "invalid value for '--length <M>': 17 to 1048576 is wanted",
         Wanted::HomeBlocks => "invalid value for '--home <N>': 1 to 1048576 is wanted",
@@ -91,6 +96,9 @@ fn line_of(wanted: Wanted) -> &'static str {
             "invalid value for '--copies <K>': a number from 1 to 18446744073709551615 is wanted",
         Wanted::Threads => "invalid value for '--threads <N>': 1 to 64 is wanted",
         Wanted::Wait => "invalid value for '--wait <SECONDS>': 1 to 86400 is wanted",
+        Wanted::CommitInterval => {
+            "invalid value for '--commit-interval <SECONDS>': 0 to 86400 is wanted"
+        }
         Wanted::Place =>
             "invalid value for '--copy <PLACE>': a number from 1 to 18446744073709551615 is wanted",
         Wanted::DamagedOrCopy => "the argument '--damaged' cannot be used with '--copy <PLACE>'",
@@ -107,9 +115,8 @@ fn line_of(wanted: Wanted) -> &'static str {
 /// The kind of the error.
 fn kind_of(wanted: Wanted) -> ErrorKind {
     match wanted {
-        Wanted::StopOrFail | Wanted::DamagedOrCopy | Wanted::JsonOrCopy => {
-            ErrorKind::ArgumentConflict
-        }
+        Wanted::StopOrFail | Wanted::KeepOrZero | Wanted::DamagedOrCopy | Wanted::JsonOrCopy =>
+            ErrorKind::ArgumentConflict,
         _ => ErrorKind::ValueValidation,
     }
 }

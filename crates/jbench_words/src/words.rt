@@ -1,5 +1,5 @@
 //! Parses the program's words, and answers `--help`, `--version` and bad words.
-use crate::fault::{self, Fault, Status};
+use crate::fault::{self, CommandStatus, Fault};
 use crate::reading::words_of;
 use crate::wanted::{Wanted, fault_of};
 use clap::error::ErrorKind;
@@ -15,7 +15,7 @@ use std::time::Duration;
 
 /// What the program has to do.
 #[derive(Drop)]
-pub enum Words<'a> {
+pub enum CommandWords<'a> {
     /// Runs the clients of the script in this file in threads.
     Threads(&'a str),
     /// Measures the time of transactions on a log.
@@ -108,6 +108,8 @@ pub struct ServeWords<'a> {
     pub read_only: bool,
     /// The export's name.
     pub export: &'a str,
+    /// The most seconds between an answer and its commit; 0: no bound.
+    pub commit_interval: u64,
     /// The most seconds to wait for locked files.
     pub wait: u64,
 }
@@ -192,6 +194,10 @@ pub struct FormatWords<'a> {
     pub has_to_be_new: bool,
     /// Whether transactions that the log's file holds may be lost.
     pub discards: bool,
+    /// Whether a home area that is a block device is filled with zeros.
+    pub zero_home: bool,
+    /// Whether what another program keeps on a block device may be lost.
+    pub force: bool,
 }
 
 #[derive(Drop)]
@@ -220,7 +226,7 @@ pub struct StopWords {
 }
 
 /// The program's work, or what is wrong with the words.
-fn told<'a>(alloc: Global, matches: &ArgMatches<'a>) -> Result<Words<'a>, Error> {
+fn told<'a>(alloc: Global, matches: &ArgMatches<'a>) -> Result<CommandWords<'a>, Error> {
     match words_of(alloc, matches) {
         Ok(words) => Ok(words),
         Err(wanted) => Err(fault_of(alloc, matches.subcommand_name().unwrap_or(""), wanted)),
@@ -232,7 +238,7 @@ fn parse_as<'a, S: AsStr>(
     alloc: Global,
     program: &mut Command<'a>,
     words: &'a [S],
-) -> Result<Words<'a>, Error> {
+) -> Result<CommandWords<'a>, Error> {
     match program.try_get_matches_from_mut(words) {
         Ok(matches) => told(alloc, &matches),
         Err(e) => Err(e),
@@ -244,7 +250,7 @@ fn parse_as<'a, S: AsStr>(
 /// # Errors
 ///
 /// The words are wrong, as `clap` says; they ask for help or the version; memory ran out.
-pub fn parse<'a, S: AsStr>(alloc: Global, words: &'a [S]) -> Result<Words<'a>, Error> {
+pub fn parse<'a, S: AsStr>(alloc: Global, words: &'a [S]) -> Result<CommandWords<'a>, Error> {
     match program(alloc) {
         Ok(mut program) => parse_as(alloc, &mut program, words),
         Err(e) => Err(Error::from(e)),
@@ -256,20 +262,20 @@ pub fn parse<'a, S: AsStr>(alloc: Global, words: &'a [S]) -> Result<Words<'a>, E
 /// # Errors
 ///
 /// The answer could not be written.
-pub fn answer(e: &Error, out: &mut impl Write, err: &mut impl Write) -> io::Result<Status> {
+pub fn answer(e: &Error, out: &mut impl Write, err: &mut impl Write) -> io::Result<CommandStatus> {
     if e.use_stderr() || e.kind() == ErrorKind::OutOfMemory {
         refuse_words(e, err)
     } else {
-        say(out, e, Status::Fine)
+        say(out, e, CommandStatus::Fine)
     }
 }
 
 /// Writes what is wrong with the words, or that memory ran out.
-fn refuse_words(e: &Error, err: &mut impl Write) -> io::Result<Status> {
+fn refuse_words(e: &Error, err: &mut impl Write) -> io::Result<CommandStatus> {
     if e.kind() == ErrorKind::OutOfMemory {
         fault::refuse(err, "", &Fault::Refused(JournalError::Memory))
     } else {
-        say(err, e, Status::Refused)
+        say(err, e, CommandStatus::Refused)
     }
 }
 
@@ -280,12 +286,12 @@ fn refuse_words(e: &Error, err: &mut impl Write) -> io::Result<Status> {
 /// The lines could not be written.
 pub fn refuse_no_text(
     alloc: Global,
-    words: &Words<'_>,
+    words: &CommandWords<'_>,
     word: &str,
     err: &mut impl Write,
-) -> io::Result<Status> {
+) -> io::Result<CommandStatus> {
     match words {
-        Words::Serve(told) if is_export(told.export, word) => {
+        CommandWords::Serve(told) if is_export(told.export, word) => {
             refuse_words(&fault_of(alloc, "serve", Wanted::ExportName), err)
         }
         _ => fault::refuse_file(err, word, io::Error::from(io::ErrorKind::InvalidFilename)),
@@ -298,7 +304,7 @@ fn is_export(name: &str, word: &str) -> bool {
 }
 
 /// Writes an answer, and gives the status back.
-fn say(to: &mut impl Write, e: &Error, status: Status) -> io::Result<Status> {
+fn say(to: &mut impl Write, e: &Error, status: CommandStatus) -> io::Result<CommandStatus> {
     write!(to, "{e}")?;
     Ok(status)
 }

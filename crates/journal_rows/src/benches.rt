@@ -2,9 +2,9 @@
 use crate::words::{text_of, words_in};
 use block_device::MemDevice;
 use commit_times::bench;
-use jbench_words::fault::Status;
+use jbench_words::fault::CommandStatus;
 use jbench_words::watch::{Watch, WatchStep};
-use jbench_words::words::{BenchWords, Words, parse};
+use jbench_words::words::{BenchWords, CommandWords, parse};
 use log_rows::RowError;
 use log_rows::words::cut;
 use run_rows::texts::numbers_in;
@@ -65,7 +65,7 @@ pub fn bench(alloc: Global, given: &str) -> Result<String, RowError> {
     let [size, log, home, step] = numbers_in::<4>(shape)?;
     let device = formatted(MemDevice::new(alloc, size as usize, log, home), log)?;
     match parse(alloc, &words) {
-        Ok(Words::Bench(words)) => bench_device(alloc, &words, device, step),
+        Ok(CommandWords::Bench(words)) => bench_device(alloc, &words, device, step),
         _ => Err(RowError::Unread),
     }
 }
@@ -99,8 +99,8 @@ fn bench_device(
     match bench::bench(alloc, words, device, &clock, seconds, &mut out, &mut err) {
         Ok(done) => {
             let status = match done {
-                Some(_) => Status::Fine,
-                None => Status::Refused,
+                Some(_) => CommandStatus::Fine,
+                None => CommandStatus::Refused,
             };
             text.push_str(text_of(alloc, &out, &err, status)?.as_str())?;
             Ok(text)

@@ -1,7 +1,7 @@
 //! Finds a row's function by the name of its kind.
 use crate::{benches, runs, words};
 use log_rows::RowError;
-use run_rows::journals::{Alone, Runner, Shared};
+use run_rows::journals::{OneThreadRunner, Runner, SharedRunner};
 use run_rows::shared::SharedJournal;
 use script_sweep::{Swept, ThisJournal};
 use std::alloc::Global;
@@ -32,11 +32,16 @@ pub fn found<R: Wait>(rt: &R, alloc: Global, kind: &str, given: &str) -> Option<
 
 /// The result of a row on runs, over the journal of one thread and over a shared one.
 fn found_over_both<R: Wait>(rt: &R, alloc: Global, kind: &str, given: &str) -> Option<Found> {
-    let alone = found_over(alloc, &Alone, kind, given).or(swept(alloc, &ThisJournal, kind, given));
+    let alone = found_over(alloc, &OneThreadRunner, kind, given).or(swept(
+        alloc,
+        &ThisJournal,
+        kind,
+        given,
+    ));
     let Some(alone) = alone else {
         return None;
     };
-    let shared = found_over(alloc, &Shared(rt), kind, given).or(swept(
+    let shared = found_over(alloc, &SharedRunner(rt), kind, given).or(swept(
         alloc,
         &SharedJournal(rt),
         kind,

@@ -9,7 +9,7 @@ use std::sync::Wait;
 
 /// The report on a file.
 #[derive(Drop)]
-pub struct Report {
+pub struct RowsReport {
     /// The lines to print.
     pub lines: String,
     /// Whether each row could be checked.
@@ -36,12 +36,12 @@ pub fn report_of<R: Wait>(
     alloc: Global,
     name: &str,
     text: &str,
-) -> Result<Report, RowError> {
+) -> Result<RowsReport, RowError> {
     let file = read(alloc, text)?;
     let found = findings_of(rt, alloc, &file)?;
     let (held, count) = (found.held, file.rows.len());
     let lines = format!(in alloc; "{name}: {held} of {count} rows held\n{}", found.others)?;
-    Ok(Report {
+    Ok(RowsReport {
         lines,
         is_whole: found.is_whole,
     })

@@ -1,7 +1,7 @@
 //! Rows of runs, over both journals.
 use crate::words::{text_of, words_in};
-use jbench_words::fault::Status;
-use jbench_words::words::{OneThreadWords, RunWords, StopWords, Words, parse};
+use jbench_words::fault::CommandStatus;
+use jbench_words::words::{CommandWords, OneThreadWords, RunWords, StopWords, parse};
 use log_rows::RowError;
 use log_rows::words::cut;
 use run_rows::journals::Runner;
@@ -14,7 +14,7 @@ pub fn run<J: Runner>(alloc: Global, journal: &J, given: &str) -> Result<String,
     let (line, script) = cut(given, "\n")?;
     let words = words_in(alloc, line)?;
     match parse(alloc, &words) {
-        Ok(Words::OneThread(OneThreadWords::Run(words))) => run_script(
+        Ok(CommandWords::OneThread(OneThreadWords::Run(words))) => run_script(
             alloc, journal, &words, script,
         ),
         _ => Err(RowError::Unread),
@@ -50,10 +50,10 @@ fn stop_told(words: &StopWords) -> Stop<'_> {
 }
 
 /// The status of a run with this verdict.
-fn status_of(right: bool) -> Status {
+fn status_of(right: bool) -> CommandStatus {
     if right {
-        Status::Fine
+        CommandStatus::Fine
     } else {
-        Status::VerdictFalse
+        CommandStatus::VerdictFalse
     }
 }

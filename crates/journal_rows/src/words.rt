@@ -1,8 +1,8 @@
 //! Rows of what the words of `jbench` say, and texts of commands.
-use jbench_words::fault::Status;
+use jbench_words::fault::CommandStatus;
 use jbench_words::words::{
-    ApplyWords, BenchWords, CatWords, DumpWords, FormatWords, OneThreadWords, RecoverWords,
-    RunWords, ServeWords, StopWords, SweepWords, Words, parse,
+    ApplyWords, BenchWords, CatWords, CommandWords, DumpWords, FormatWords, OneThreadWords,
+    RecoverWords, RunWords, ServeWords, StopWords, SweepWords, parse,
 };
 use log_rows::RowError;
 use run_rows::scripts::measures_text;
@@ -19,12 +19,12 @@ pub fn words(alloc: Global, given: &str) -> Result<String, RowError> {
     }
 }
 
-fn told(alloc: Global, words: &Words<'_>) -> Result<String, RowError> {
+fn told(alloc: Global, words: &CommandWords<'_>) -> Result<String, RowError> {
     match words {
-        Words::Threads(script) => Ok(format!(in alloc; "threads {script}")?),
-        Words::Bench(words) => Ok(told_bench(alloc, words)?),
-        Words::Serve(words) => told_serve(alloc, words),
-        Words::OneThread(words) => told_one_thread(alloc, words),
+        CommandWords::Threads(script) => Ok(format!(in alloc; "threads {script}")?),
+        CommandWords::Bench(words) => Ok(told_bench(alloc, words)?),
+        CommandWords::Serve(words) => told_serve(alloc, words),
+        CommandWords::OneThread(words) => told_one_thread(alloc, words),
     }
 }
 
@@ -218,7 +218,7 @@ pub(crate) fn text_of(
     alloc: Global,
     out: &[u8],
     err: &[u8],
-    status: Status,
+    status: CommandStatus,
 ) -> Result<String, RowError> {
     let mut text = String::from_str(alloc, written(out)?)?;
     for line in written(err)?.lines() {
@@ -229,10 +229,10 @@ pub(crate) fn text_of(
 }
 
 /// The exit status of a command.
-fn exit_status(status: Status) -> u8 {
+fn exit_status(status: CommandStatus) -> u8 {
     match status {
-        Status::Fine => 0,
-        Status::Refused => 1,
-        Status::VerdictFalse => 2,
+        CommandStatus::Fine => 0,
+        CommandStatus::Refused => 1,
+        CommandStatus::VerdictFalse => 2,
     }
 }

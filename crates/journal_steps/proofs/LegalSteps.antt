@@ -1,11 +1,10 @@
 -- Each step of a journal leaves its record legal.
-use Rattle.std.proofs.Common.{refl, sym, ap, subst, ◌∙◌, arith, ⊎_elim}
-use Rattle.std.specs.Prelude.{◌≡◌, ◌≢◌, ◌⊎◌, ℕ, ◌<◌, ◌≤◌, List, [], ◌∷◌, ◌++◌, length, Some, Result, Ok, Err, IfErr, IfOk, OnOk}
+use Rattle.std.proofs.Common.{refl, sym, ap, subst, arith, ⊎_elim}
+use Rattle.std.specs.Prelude.{◌≡◌, ◌≢◌, ◌⊎◌, ℕ, ◌<◌, ◌≤◌, List, [], ◌∷◌, ◌++◌, length, Result, Ok, Err, IfErr, IfOk, OnOk}
 use Rattle.std.proofs.lemmas.Bool.Decides.{eqb_tells, leb_tells}
 use Rattle.journal_model.specs.declared.entry.Entry.TheVariants.{Copy, Revoke as RevokeEntry}
 use Rattle.journal_model.specs.declared.number.Area.TheVariants.{Home}
 use Rattle.journal_model.specs.declared.refusal.JournalError.{JournalError}
-use Rattle.journal_model.specs.declared.refusal.JournalError.TheVariants.{Memory}
 use Rattle.journal_model.specs.declared.transaction.Op.TheVariants.{Write, Revoke}
 use Rattle.journal_model.specs.Disk.{Disk}
 use Rattle.journal_model.specs.Record.{IsLegal}
@@ -23,7 +22,7 @@ use Rattle.journal_steps.specs.declared.turn.Turn.TheVariants.{Idle as IdleTurn,
 use Rattle.journal_steps.specs.Direct.{DirectSyncRefused, DirectWriteRefused}
 use Rattle.journal_steps.specs.Direct.DirectSyncRefused.{SyncAborted, SyncFailed}
 use Rattle.journal_steps.specs.Direct.DirectWriteRefused.{WriteAborted, WriteOutside, WriteNotDirect, WriteFailed}
-use Rattle.journal_steps.specs.Journal.{CheckTurnDid, CheckTurnRefused, Does, FailsAndNotifies, NewestRefused, ReadRefused, ReadsNewest, TurnDid, TurnRefused}
+use Rattle.journal_steps.specs.Journal.{CheckTurnDid, CheckTurnRefused, Does, FailsAndNotifies, NewestRefused, ReadRefused, NewestDid, TurnDid, TurnRefused}
 use Rattle.journal_steps.specs.Journal.CheckTurnRefused.{CheckAborted, CheckFailed}
 use Rattle.journal_steps.specs.Journal.NewestRefused.{NewestAborted, NewestOutside, NewestRevoked, NewestFailed}
 use Rattle.journal_steps.specs.Journal.ReadRefused.{ReadKeptOut, ReadRevoked, ReadUnnoted, ReadFailed}
@@ -168,19 +167,13 @@ module _ {D : Type 0} (state : D → DeviceState) (honest : D → Type 0) (old n
   read-legal (Ok a) h b v ok err = λ is. does-legal (ReadBlock h.number b v) (ok is) is
   read-legal (Err e) h b v ok err = read-refused h b e err
 
-  -- so does a read, noted or out of memory
-  pub noted-legal : {A : Type 0} (r : Result A JournalError) (h b : ℕ) (v before : List ℕ) → OnOk r (honest new.device → Does state old (ReadBlock h b v) new) →
-      IfErr r (λ e. (e ≡ Memory) × (new.journal.front ≡ old.journal.front) × (v ≡ before)) → KeepsLegal honest new
-  noted-legal (Ok a) h b v before ok err = λ is. does-legal (ReadBlock h b v) (ok is) is
-  noted-legal (Err e) h b v before ok err = λ is. subst (λ (f : Front). IsLegal (transactions f)) (sym err.1) (legal (back is))
-
   newest-refused : (b : ℕ) (e : JournalError) → NewestRefused state old b new e → KeepsLegal honest new
   newest-refused b e (NewestAborted aborted same is) = same-legal same
   newest-refused b e (NewestOutside running may same is) = same-legal same
   newest-refused b e (NewestRevoked running may last same is) = same-legal same
   newest-refused b e (NewestFailed running may last kept did faults is) = does-legal ReadFault did
 
-  pub newest-legal : {A : Type 0} (r : Result A JournalError) (b : ℕ) (v : List ℕ) → OnOk r (ReadsNewest state honest old b v new) →
+  pub newest-legal : {A : Type 0} (r : Result A JournalError) (b : ℕ) (v : List ℕ) → OnOk r (NewestDid state honest old b v new) →
       IfErr r (λ e. NewestRefused state old b new e) → KeepsLegal honest new
   newest-legal (Ok a) b v ok err = alike-legal ok.same
   newest-legal (Err e) b v ok err = newest-refused b e err

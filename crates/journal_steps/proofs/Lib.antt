@@ -12,3 +12,4 @@ mod Quarter
 mod Rounding
 mod Sealing
 mod Unreleased
+mod Verbs

@@ -15,7 +15,7 @@ use Rattle.journal_world.specs.Sound.{IsPlain}
 use Rattle.log_engine.specs.Engine.{EngineValue, ReadRefused}
 use Rattle.log_engine.specs.Engine.ReadRefused.{ReadAborted, ReadFailed, ReadOutside}
 use Rattle.journal_front.specs.Front.{MayTouch}
-use Rattle.journal_steps.specs.Journal.{Agrees, NewestRefused, ReadsNewest}
+use Rattle.journal_steps.specs.Journal.{Agrees, NewestRefused, NewestDid}
 use Rattle.journal_steps.specs.Journal.NewestRefused.{NewestFailed}
 use Rattle.journal_steps.specs.Values.{together}
 use Rattle.journal_steps.proofs.Reading.{kept-pending, seen-kept, seen-read}
@@ -28,7 +28,7 @@ some-copy v w same = cc
 module _ {D : Type 0} (state : D → DeviceState) (honest : D → Type 0) (f : Front) (old : EngineValue D) (b : ℕ) (agrees : Agrees (together f old).journal)
     (plain : IsPlain old.engine) (running : f.aborted ≡ false) (may : MayTouch f b) where
   -- the front hands out the copy that it keeps
-  pub hands-copy : (v : List ℕ) → last_effect b (unfinished f) ≡ Some (Copy v) → ReadsNewest state honest (together f old) b v (together f old)
+  pub hands-copy : (v : List ℕ) → last_effect b (unfinished f) ≡ Some (Copy v) → NewestDid state honest (together f old) b v (together f old)
   hands-copy v last = record {
     running = running;
     allowed = may;
@@ -41,7 +41,7 @@ module _ {D : Type 0} (state : D → DeviceState) (honest : D → Type 0) (f : F
   -- it keeps none, and the engine reads
   pub reads-newest : (new : EngineValue D) (v : List ℕ) → last_effect b (unfinished f) ≡ None → (honest new.device → IsRead old.engine (state old.device).disk b v) →
       new.engine ≡ old.engine → ((i : ℕ) (w : List ℕ) → IsPending old.engine i b w → (v ≡ w) × (new ≡ old)) →
-      ReadsNewest state honest (together f old) b v (together f new)
+      NewestDid state honest (together f old) b v (together f new)
   reads-newest new v none reads same pending = record {
     running = running;
     allowed = may;

@@ -1,5 +1,6 @@
 -- A read whose step is noted, or out of memory: what it leaves.
 use Rattle.std.proofs.Common.{refl, sym, ap, subst, ◌∙◌}
+use Rattle.std.proofs.lemmas.Result.{IfErr-weaker}
 use Rattle.std.specs.Prelude.{◌≡◌, ℕ, List, length, Result, Ok, Err, IfErr, OnOk, Some}
 use Rattle.journal_model.specs.declared.entry.Entry.TheVariants.{Revoke as RevokeEntry}
 use Rattle.journal_model.specs.declared.refusal.JournalError.{JournalError}
@@ -17,6 +18,7 @@ use Rattle.journal_steps.specs.Journal.{Agrees, Does, HasCopyKept, NoCopy, Regis
 use Rattle.journal_steps.specs.Journal.NoCopy.{OfMemory, OfRevoke}
 use Rattle.journal_steps.specs.Journal.ReadRefused.{ReadRevoked, ReadUnnoted}
 use Rattle.journal_steps.specs.Values.{JournalValue, together}
+use Rattle.journal_steps.specs.Verbs.{Reads}
 use Rattle.journal_steps.proofs.Reading.{IsSeen}
 use Rattle.journal_steps.proofs.Rounding.{reads-block}
 use Rattle.journal_steps.proofs.Sealing.{agrees-read}
@@ -44,15 +46,6 @@ module _ {A D : Type 0} (state : D → DeviceState) (honest : D → Type 0) (f f
   pub noted-agrees : OnOk r (IsOpen f h.number) → Agrees (together front new).journal
   noted-agrees is = by-agrees r noted unnoted is
 
-  by-sealed : (r : Result A JournalError) → OnOk r ((front ≡ reading_block f h.number b v) × (into ≡ v)) → IfErr r (λ e. (e ≡ Memory) × (front ≡ f) × (into ≡ before)) →
-      front.sealed ≡ f.sealed
-  by-sealed (Ok a) noted unnoted = ap (λ (x : Front). x.sealed) noted.0
-  by-sealed (Err e) noted unnoted = ap (λ (x : Front). x.sealed) unnoted.1
-
-  -- the sealed transactions stay
-  pub noted-sealed : front.sealed ≡ f.sealed
-  noted-sealed = by-sealed r noted unnoted
-
   by-does : (r : Result A JournalError) → OnOk r ((front ≡ reading_block f h.number b v) × (into ≡ v)) → OnOk r (IsOpen f h.number) →
       (honest new.device → IsSeen (together f old).journal (state old.device).disk b v) → Stays (state old.device) (state new.device) →
       OnOk r (honest new.device → Does state (together f old) (ReadBlock h.number b into) (together front new))
@@ -62,7 +55,7 @@ module _ {A D : Type 0} (state : D → DeviceState) (honest : D → Type 0) (f f
   by-does (Err e) noted is sees stays = is
 
   -- it is the machine's read
-  pub noted-does : OnOk r (IsOpen f h.number) → (honest new.device → IsSeen (together f old).journal (state old.device).disk b v) →
+  noted-does : OnOk r (IsOpen f h.number) → (honest new.device → IsSeen (together f old).journal (state old.device).disk b v) →
       Stays (state old.device) (state new.device) → OnOk r (honest new.device → Does state (together f old) (ReadBlock h.number b into) (together front new))
   noted-does is sees stays = by-does r noted is sees stays
 
@@ -74,7 +67,7 @@ module _ {A D : Type 0} (state : D → DeviceState) (honest : D → Type 0) (f f
   by-notes (Err e) noted kept = noted
 
   -- with these bytes, even if the device's reads are incorrect
-  pub noted-notes : (HasCopyKept (together f old).journal b → new.device ≡ old.device) → OnOk r (RegistersRead state (together f old) h b into (together front new))
+  noted-notes : (HasCopyKept (together f old).journal b → new.device ≡ old.device) → OnOk r (RegistersRead state (together f old) h b into (together front new))
   noted-notes kept = by-notes r noted kept
 
   by-refused : (r : Result A JournalError) → IfErr r (λ e. (e ≡ Memory) × (front ≡ f) × (into ≡ before)) → (last_effect b (unfinished f) ≡ Some RevokeEntry → ⊥) →
@@ -88,6 +81,19 @@ module _ {A D : Type 0} (state : D → DeviceState) (honest : D → Type 0) (f f
           ∙ ap (λ (e : Engine). let j : Journal = record { front = f; engine = e } in j) same
 
   -- if it is refused, memory ran out
-  pub noted-refused : (last_effect b (unfinished f) ≡ Some RevokeEntry → ⊥) → (state new.device).faults ≡ (state old.device).faults →
+  noted-refused : (last_effect b (unfinished f) ≡ Some RevokeEntry → ⊥) → (state new.device).faults ≡ (state old.device).faults →
       IfErr r (ReadRefused state (together f old) h b (together front new))
   noted-refused other faults = by-refused r unnoted other faults
+
+  -- so it is a read, whatever it answers
+  pub noted-reads : OnOk r (IsOpen f h.number) → (honest new.device → IsSeen (together f old).journal (state old.device).disk b v) →
+      Stays (state old.device) (state new.device) → (HasCopyKept (together f old).journal b → new.device ≡ old.device) →
+      (last_effect b (unfinished f) ≡ Some RevokeEntry → ⊥) → (state new.device).faults ≡ (state old.device).faults → length into ≡ length before →
+      Reads state honest (together f old) h b before into (together front new) r
+  noted-reads is sees stays kept other faults length_is = record {
+    ok = noted-does is sees stays;
+    registers = noted-notes kept;
+    err = noted-refused other faults;
+    untouched = IfErr-weaker r _ _ (λ e why. why.2) unnoted;
+    same_length = length_is;
+  }

@@ -123,29 +123,10 @@ reads-block f front old new disk after h b v may is sees noted same stays =
     record { running = may.running; handle = is; allowed = may.allowed; sees = sees; front = noted; engine = same; disk_is = stays }
 
 -- each crash image opens as before, if disk, sealed transactions and committed count stay
-opens-same : (f front : Front) (old new : Engine) (disk after : Disk) → front.sealed ≡ f.sealed → new.shape ≡ old.shape → new.committed ≡ old.committed →
+pub opens-same : (f front : Front) (old new : Engine) (disk after : Disk) → front.sealed ≡ f.sealed → new.shape ≡ old.shape → new.committed ≡ old.committed →
     after ≡ disk → OpensNow (record { front = f; engine = old }) disk → OpensNow (record { front = front; engine = new }) after
 opens-same f front old new disk after sealed shape committed same opens =
     subst (λ (d : Disk). OpensOver new.shape front.sealed new.committed (length front.sealed) d) (sym same)
     (subst (λ (ts : History). OpensOver new.shape ts new.committed (length ts) disk) (sym sealed)
     (subst (λ (n : ℕ). OpensOver new.shape f.sealed n (length f.sealed) disk) (sym committed)
     (subst (λ (s : Shape). OpensOver s f.sealed old.committed (length f.sealed) disk) (sym shape) opens)))
-
--- so it does after a refused read
-pub opens-unread : {D : Type 0} (state : D → DeviceState) (f front : Front) (old new : EngineValue D) (b : ℕ) (e : JournalError) →
-    OpensNow (record { front = f; engine = old.engine }) (state old.device).disk → front ≡ aborting f → Stays (state old.device) (state new.device) →
-    ReadRefused state old b new e → OpensNow (record { front = front; engine = new.engine }) (state new.device).disk
-opens-unread {D} state f front old new b e opens told stays (ReadAborted is same) =
-    let engine : new.engine ≡ old.engine = ap (λ (x : EngineValue D). x.engine) same in
-    opens-same f front old.engine new.engine _ _ (ap (λ (x : Front). x.sealed) told) (ap (λ (x : Engine). x.shape) engine) (ap (λ (x : Engine). x.committed) engine) stays.disk opens
-opens-unread {D} state f front old new b e opens told stays (ReadOutside on none same) =
-    let engine : new.engine ≡ old.engine = ap (λ (x : EngineValue D). x.engine) same in
-    opens-same f front old.engine new.engine _ _ (ap (λ (x : Front). x.sealed) told) (ap (λ (x : Engine). x.shape) engine) (ap (λ (x : Engine). x.committed) engine) stays.disk opens
-opens-unread {D} state f front old new b e opens told stays (ReadFailed on touched none same counted) =
-    opens-same f front old.engine new.engine _ _ (ap (λ (x : Front). x.sealed) told) (ap (λ (x : Engine). x.shape) same) (ap (λ (x : Engine). x.committed) same) stays.disk opens
-
--- and after an answered read, noted or out of memory
-pub opens-read : (f front : Front) (old new : Engine) (disk after : Disk) → front.sealed ≡ f.sealed → new ≡ old → after ≡ disk →
-    OpensNow (record { front = f; engine = old }) disk → OpensNow (record { front = front; engine = new }) after
-opens-read f front old new disk after sealed same stays opens =
-    opens-same f front old new disk after sealed (ap (λ (x : Engine). x.shape) same) (ap (λ (x : Engine). x.committed) same) stays opens

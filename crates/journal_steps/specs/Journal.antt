@@ -106,7 +106,7 @@ HandsOut f b buffer true v = last_effect b (unfinished f) ≡ Some (Copy v)
 HandsOut f b buffer false v = (last_effect b (unfinished f) ≡ None) × (v ≡ buffer)
 
 -- a read without a handle saw what a handle's read would see, and left the journal; a kept copy leaves the device too
-pub record ReadsNewest {D : Type 0} (state : D → DeviceState) (honest : D → Type 0) (old : JournalValue D) (b : ℕ) (v : List ℕ) (new : JournalValue D) : Type 0 where
+pub record NewestDid {D : Type 0} (state : D → DeviceState) (honest : D → Type 0) (old : JournalValue D) (b : ℕ) (v : List ℕ) (new : JournalValue D) : Type 0 where
   pub running : old.journal.front.aborted ≡ false
   pub allowed : MayTouch old.journal.front b
   pub same : new.journal ≡ old.journal

@@ -4,3 +4,4 @@ pub mod Legal
 pub mod Unreleased
 pub mod Values
 pub mod Handles
+pub mod Verbs

@@ -5,22 +5,19 @@
 //! this one, and the journal is then aborted.
 ghost use Rattle.std.specs.Prelude.{◌≡◌, ◌<◌, ◌≢◌, ◌↔◌, List, ℕ, false, length, is_some, option_map, Some, IfOk, IfErr, IfSome, OnOk, IsTrue};
 ghost use Rattle.journal_model.specs.declared.entry.Entry.TheVariants.{Copy, Revoke as RevokeEntry};
-ghost use Rattle.journal_model.specs.declared.refusal.JournalError.TheVariants.{Device as DeviceFailed, Memory, Revoked};
+ghost use Rattle.journal_model.specs.declared.refusal.JournalError.TheVariants.{Memory, Revoked};
 ghost use Rattle.journal_model.specs.Transaction.{last_effect};
-ghost use Rattle.block_device.specs.State.{MakesAtMostOneCall};
 ghost use Rattle.journal_world.specs.declared.stage.Stage.TheVariants.{Idle};
 ghost use Rattle.journal_world.specs.Front.{IsOpen, reading_block, unfinished};
 ghost use Rattle.journal_world.specs.Journal.{batch_of};
-ghost use Rattle.journal_world.specs.Journal.Event.{DirectSync, DirectWrite, ReadBlock};
-ghost use Rattle.block_device.specs.Call.{MakesOneCall, OnlyReads};
+ghost use Rattle.block_device.specs.Call.{MakesOneCall};
 ghost use Rattle.log_engine.specs.Left.{commit_calls};
 ghost use Rattle.journal_steps.specs.declared.turn.CheckTurn.TheVariants.{Idle as IdleCheck};
-ghost use Rattle.journal_steps.specs.Journal.{Agrees, CheckTurnDid, CheckTurnRefused, Does, FitsQuarter, HandsOut, HasRoomFor, HoldsCopy, IsDuringCheckTurn, IsDuringTurn, LeavesFewerRounds, NewestRefused, NoCopy, RegistersRead, OpensNow, ReadRefused, ReadsNewest, SealDid, SealIsDue, TurnDid, TurnRefused, need_of};
-ghost use Rattle.journal_steps.specs.Legal.{KeepsLegal};
-ghost use Rattle.journal_steps.specs.Direct.{DirectSyncRefused, DirectWriteRefused, IsDuringDirectSync, IsDuringDirectWrite, MayWriteDirectly};
+ghost use Rattle.journal_steps.specs.Journal.{Agrees, CheckTurnDid, CheckTurnRefused, FitsQuarter, HandsOut, HasRoomFor, HoldsCopy, IsDuringCheckTurn, IsDuringTurn, LeavesFewerRounds, NoCopy, SealDid, SealIsDue, TurnDid, TurnRefused, need_of};
 ghost use Rattle.journal_steps.specs.Unreleased.{KeptUntold, TellsKept};
 ghost use Rattle.journal_front.specs.Front.{MayStep};
 ghost use Rattle.journal_steps.specs.Values.{together};
+ghost use Rattle.journal_steps.specs.Verbs.{LeftByRead, Reads, ReadsNewest, SyncsDirectly, WritesDirectly};
 
 use crate::turn::{CheckTurn, Turn};
 use block_device::Device;
@@ -89,16 +86,8 @@ pub fn read<D: Device, R: Record>(
     requires length { length into.old ≡ (D.state engine.old.device).shape.block_size }
     requires agrees { Agrees (together front.old engine.old).journal }
     ensures agrees { Agrees (together front.new engine.new).journal }
-    ensures ok { OnOk result (D.honest engine.new.device → Does D.state (together front.old engine.old) (ReadBlock handle.now.number block into.new) (together front.new engine.new)) }
-    ensures registers { OnOk result (RegistersRead D.state (together front.old engine.old) handle.now block into.new (together front.new engine.new)) }
-    ensures legal { KeepsLegal D.honest (together front.old engine.old) → KeepsLegal D.honest (together front.new engine.new) }
-    ensures err { IfErr result (ReadRefused D.state (together front.old engine.old) handle.now block (together front.new engine.new)) }
-    ensures untouched { IfErr result (λ e. into.new ≡ into.old) }
-    ensures device { OnlyReads D.state D.honest engine.old.device engine.new.device }
-    ensures opens { D.honest engine.old.device → OpensNow (together front.new engine.new).journal (D.state engine.new.device).disk }
-    ensures calls { MakesAtMostOneCall (D.state engine.old.device) (D.state engine.new.device) }
-    ensures no_fault { OnOk result ((D.state engine.new.device).faults ≡ (D.state engine.old.device).faults) }
-    ensures length { length into.new ≡ length into.old }
+    ensures reads { Reads D.state D.honest (together front.old engine.old) handle.now block into.old into.new (together front.new engine.new) result }
+    ensures left { LeftByRead D.state D.honest (together front.old engine.old) (together front.new engine.new) result }
 {
     engine.recall_invariant();
     front.admit(handle, block)?;
@@ -153,14 +142,8 @@ pub fn read_newest<D: Device, R: Record>(
     requires length { length into.old ≡ (D.state engine.old.device).shape.block_size }
     requires agrees { Agrees (together front.old engine.old).journal }
     ensures agrees { Agrees (together front.new engine.new).journal }
-    ensures ok { OnOk result (ReadsNewest D.state D.honest (together front.old engine.old) block into.new (together front.new engine.new)) }
-    ensures err { IfErr result (NewestRefused D.state (together front.old engine.old) block (together front.new engine.new)) }
-    ensures untouched { IfErr result (λ e. e ≢ DeviceFailed → into.new ≡ into.old) }
-    ensures device { OnlyReads D.state D.honest engine.old.device engine.new.device }
-    ensures opens { D.honest engine.old.device → OpensNow (together front.new engine.new).journal (D.state engine.new.device).disk }
-    ensures calls { MakesAtMostOneCall (D.state engine.old.device) (D.state engine.new.device) }
-    ensures no_fault { OnOk result ((D.state engine.new.device).faults ≡ (D.state engine.old.device).faults) }
-    ensures length { length into.new ≡ length into.old }
+    ensures reads { ReadsNewest D.state D.honest (together front.old engine.old) block into.old into.new (together front.new engine.new) result }
+    ensures left { LeftByRead D.state D.honest (together front.old engine.old) (together front.new engine.new) result }
 {
     engine.recall_invariant();
     if front.is_aborted() {
@@ -447,11 +430,7 @@ pub fn write_direct<D: Device, R: Record>(
     requires length { length bytes.now ≡ (D.state engine.old.device).shape.block_size }
     requires agrees { Agrees (together front.old engine.old).journal }
     ensures agrees { Agrees (together front.new engine.new).journal }
-    ensures right { OnOk result (MayWriteDirectly (together front.old engine.old).journal block) }
-    ensures ok { OnOk result (Does D.state (together front.old engine.old) (DirectWrite block bytes.now) (together front.new engine.new)) }
-    ensures err { IfErr result (λ e. DirectWriteRefused D.state (together front.old engine.old) block bytes.now (together front.new engine.new) e) }
-    ensures no_fault { OnOk result ((D.state engine.new.device).faults ≡ (D.state engine.old.device).faults) }
-    ensures device { MakesOneCall D.state D.honest (IsDuringDirectWrite (together front.old engine.old).journal block bytes.now (D.state engine.old.device).disk) engine.old.device engine.new.device }
+    ensures writes { WritesDirectly D.state D.honest (together front.old engine.old) block bytes.now (together front.new engine.new) result }
 {
     engine.recall_invariant();
     if engine.is_aborted() {
@@ -484,10 +463,7 @@ pub fn sync_direct<D: Device, R: Record>(
 ) -> Result<(), JournalError>
     requires agrees { Agrees (together front.old engine.old).journal }
     ensures agrees { Agrees (together front.new engine.new).journal }
-    ensures ok { OnOk result (Does D.state (together front.old engine.old) DirectSync (together front.new engine.new)) }
-    ensures err { IfErr result (λ e. DirectSyncRefused D.state (together front.old engine.old) (together front.new engine.new) e) }
-    ensures no_fault { OnOk result ((D.state engine.new.device).faults ≡ (D.state engine.old.device).faults) }
-    ensures device { MakesOneCall D.state D.honest (IsDuringDirectSync (together front.old engine.old).journal (D.state engine.old.device).disk) engine.old.device engine.new.device }
+    ensures syncs { SyncsDirectly D.state D.honest (together front.old engine.old) (together front.new engine.new) result }
 {
     match engine.sync_direct() {
         Ok(()) => Ok(()),

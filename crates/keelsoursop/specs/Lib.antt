@@ -14,7 +14,6 @@ pub use Rattle.journal_front.specs as journal_front
 pub use Rattle.journal_steps.specs as journal_steps
 pub use Rattle.group_commit.specs as group_commit
 pub use Rattle.handle.specs as handle
-pub use Rattle.journal_sides.specs as journal_sides
 pub use Rattle.locked_journal.specs as locked_journal
 pub use Rattle.shared_journal.specs as shared_journal
 pub use Rattle.volume_service.specs as volume_service

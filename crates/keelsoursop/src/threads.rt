@@ -6,7 +6,7 @@ pub use shared_journal::{
     Tally, Turns, UnnamedJournal, create,
 };
 pub use volume_service::{
-    Client, ClientOutcome, DoneTasks, Gate, HandleOutcome, HandlePlan, HeldDevice, OpenGate,
-    Outcome, Point, ServedClients, Service, Session, Task, Touch, confirm, do_tasks, serve,
-    serve_clients,
+    Client, ClientOutcome, DoneTasks, Every, Gate, HandleOutcome, HandlePlan, HeldDevice, Interval,
+    NoInterval, OpenGate, Outcome, Point, ServedClients, Service, Session, Task, Touch, confirm,
+    do_tasks, serve, serve_clients,
 };

@@ -1,30 +1,30 @@
 -- What holders know and what is counted after front and engine are reconciled and made a step.
 use Rattle.std.proofs.Common.{refl, sym, ap, subst, ◌∙◌, arith}
-use Rattle.std.specs.Prelude.{◌≡◌, ℕ, ◌+◌, ◌≤◌, max, Bool, true, false, List, Option, Some, None, Result, Ok, Err, IfErr, IfOk, OnOk}
+use Rattle.std.specs.Prelude.{◌≡◌, ℕ, ◌+◌, ◌≤◌, max, Bool, true, false, List, Option, Some, None, Result, Ok, Err, IfErr, IfOk}
 use Rattle.std.proofs.Math.Nat.{le-max_left, max-eq_right}
 use Rattle.block_device.specs.State.{DeviceState}
 use Rattle.journal_model.specs.Disk.{Disk, Shape}
 use Rattle.journal_model.specs.declared.refusal.JournalError.{JournalError}
 use Rattle.journal_world.specs.Front.{Front, aborting, finishing, held, raising, sealing}
 use Rattle.journal_world.specs.Journal.{Journal}
-use Rattle.journal_world.specs.Journal.Event.{DirectSync, DirectWrite}
 use Rattle.log_engine.specs.Engine.{EngineValue}
 use Rattle.journal_front.specs.Values.{HandleValue}
 use Rattle.journal_steps.specs.declared.turn.Turn.{Turn}
 use Rattle.journal_steps.specs.declared.turn.Turn.TheVariants.{Idle as IdleTurn, Waiting, Step, Sealed, Committed}
-use Rattle.journal_steps.specs.Direct.{DirectSyncRefused, DirectWriteRefused, MayWriteDirectly}
-use Rattle.journal_steps.specs.Journal.{Does, NewestRefused, RegistersRead, ReadRefused, ReadsNewest, SealDid, TurnDid, TurnRefused}
+use Rattle.journal_steps.specs.Journal.{SealDid, TurnDid, TurnRefused}
 use Rattle.journal_steps.specs.Journal.TurnRefused.{DeviceFailed, MemoryIsShort, RingIsShort, WasAborted}
 use Rattle.journal_steps.specs.Values.{JournalValue}
-use Rattle.journal_sides.specs.Sides.{Finishes, HeldReadDid, Reconciles, ReconcilesAnd, Notifies, engine_of}
-use Rattle.journal_sides.specs.Sides.Finishes.{NoneFinished, OneFinished}
-use Rattle.journal_sides.specs.Sides.Notifies.{NotNotified, Notified}
+use Rattle.journal_steps.specs.Verbs.{LeftByRead, Reads, ReadsNewest, SyncsDirectly, WritesDirectly}
+use Rattle.locked_journal.specs.Sides.{Finishes, HeldReadDid, Reconciles, ReconcilesAnd, Notifies, engine_of}
+use Rattle.locked_journal.specs.Sides.Finishes.{NoneFinished, OneFinished}
+use Rattle.locked_journal.specs.Sides.Notifies.{NotNotified, Notified}
 use Rattle.locked_journal.specs.declared.own.HandleStage.{HandleStage}
 use Rattle.locked_journal.specs.declared.own.HandleStage.TheVariants.{Open, Stopped, Asked}
 use Rattle.locked_journal.specs.declared.own.OwnSteps.{OwnSteps}
 use Rattle.locked_journal.specs.Knowing.{AllStillKnow, MayGo}
 use Rattle.locked_journal.specs.Own.{IsOwn, StageHolds}
 use Rattle.locked_journal.proofs.Calls as calls
+use Rattle.locked_journal.proofs.Knowing.{all-read_newest, all-sync_direct, all-write_direct}
 use Rattle.locked_journal.specs.Locked.{IsHeld}
 use Rattle.locked_journal.proofs.Counting as counting
 
@@ -117,11 +117,6 @@ module _ {D : Type 0} (state : D → DeviceState) (old : JournalValue D) (engine
   both-know new P m step x own =
       step m.mid m.did x (learns-know old.journal.front m.mid.journal.front (reconciled-learns m.mid m.reconciles) x own)
 
-  -- A device that keeps its shape in such a step has the old shape.
-  pub same-size : (new : JournalValue D) (P : JournalValue D → Type 0) → ReconcilesAnd state old engine P →
-      ((mid : JournalValue D) → P mid → (state new.device).shape ≡ (state mid.device).shape) → (state new.device).shape ≡ (state engine.device).shape
-  same-size new P m step = step m.mid m.did ∙ ap (λ (e : EngineValue D). (state e.device).shape) m.reconciles.engine_is
-
   module _ (most : ℕ) (measures : Shape) (count raised : ℕ) (is : IsHeld state most measures count raised old) where
     -- The counts after a reconciliation.
     pub reconciled-held : (mid : JournalValue D) → Reconciles state old engine mid → IsHeld state most measures count mid.journal.front.mark mid
@@ -158,15 +153,13 @@ module _ {D : Type 0} (state : D → DeviceState) (old : JournalValue D) (engine
         }
 
     -- So does a following step that changes nothing counted.
-    pub both-held : (new : JournalValue D) (after : ℕ) → after ≡ max raised new.journal.front.mark → (P : JournalValue D → Type 0) →
-        (state new.device).shape ≡ (state engine.device).shape → ReconcilesAnd state old engine P →
-        ((mid : JournalValue D) → P mid → IsHeld state most measures count mid.journal.front.mark mid → (state new.device).shape ≡ (state mid.device).shape →
-        IsHeld state most measures count mid.journal.front.mark new) → IsHeld state most measures count after new
-    both-held new after raise P size_is m step =
-        let there =
-        step m.mid m.did (reconciled-held m.mid m.reconciles) (size_is ∙ sym (ap (λ (e : EngineValue D). (state e.device).shape) m.reconciles.engine_is)) in
+    both-held : (new : JournalValue D) (after : ℕ) → after ≡ max raised new.journal.front.mark → (P : JournalValue D → Type 0) → ReconcilesAnd state old engine P →
+        ((mid : JournalValue D) → P mid → IsHeld state most measures count mid.journal.front.mark mid → IsHeld state most measures count mid.journal.front.mark new) →
+        IsHeld state most measures count after new
+    both-held new after raise P m step =
+        let there = step m.mid m.did (reconciled-held m.mid m.reconciles) in
         let low = reconciled-rises m.mid m.reconciles in
-        let same = there.mark in
+        let was = there.mark in
         record {
           credits = there.credits;
           reserved = there.reserved;
@@ -175,65 +168,48 @@ module _ {D : Type 0} (state : D → DeviceState) (old : JournalValue D) (engine
           shape_is = there.shape_is;
         }
 
-    pub read-held : {A : Type 0} (Rest : JournalValue D → Type 0) (new : JournalValue D) (after : ℕ) → after ≡ max raised new.journal.front.mark → (r : Result A JournalError) (h : HandleValue) (b : ℕ) (v : List ℕ) →
-        (state new.device).shape ≡ (state engine.device).shape → OnOk r (ReconcilesAnd state old engine (λ (mid : JournalValue D). RegistersRead state mid h b v new × Rest mid)) →
-        IfErr r (λ e. ReconcilesAnd state old engine (λ (mid : JournalValue D). ReadRefused state mid h b new e)) → IsHeld state most measures count after new
-    read-held {A} Rest new after raise (Ok a) h b v size_is ok err =
-        both-held new after raise _ size_is ok (λ mid did there same. counting.read state most measures count mid.journal.front.mark mid new there same (Ok a) h b v did.0 tt)
-    read-held {A} Rest new after raise (Err e) h b v size_is ok err =
-        let r : Result A JournalError = Err e in
-        both-held new after raise _ size_is err (λ mid did there same. counting.read state most measures count mid.journal.front.mark mid new there same r h b v tt did)
+    module _ {A : Type 0} (honest : D → Type 0) (new : JournalValue D) (after : ℕ) (raise : after ≡ max raised new.journal.front.mark) (r : Result A JournalError) where
+      pub read-held : (h : HandleValue) (b : ℕ) (before v : List ℕ) →
+          ReconcilesAnd state old engine (λ (mid : JournalValue D). Reads state honest mid h b before v new r × LeftByRead state honest mid new r) → IsHeld state most measures count after new
+      read-held h b before v m =
+          both-held new after raise _ m
+          (λ mid did there. counting.read state most measures count mid.journal.front.mark mid new there did.1.device.stays.shape r h b v did.0.registers did.0.err)
 
-    pub read_newest-held : {A : Type 0} (honest : D → Type 0) (new : JournalValue D) (after : ℕ) → after ≡ max raised new.journal.front.mark → (r : Result A JournalError) (b : ℕ) (v : List ℕ) →
-        (state new.device).shape ≡ (state engine.device).shape → OnOk r (ReconcilesAnd state old engine (λ (mid : JournalValue D). ReadsNewest state honest mid b v new)) →
-        IfErr r (λ e. ReconcilesAnd state old engine (λ (mid : JournalValue D). NewestRefused state mid b new e)) → IsHeld state most measures count after new
-    read_newest-held {A} honest new after raise (Ok a) b v size_is ok err =
-        both-held new after raise _ size_is ok (λ mid did there same. counting.read-newest state most measures count mid.journal.front.mark mid new there same honest (Ok a) b v did tt)
-    read_newest-held {A} honest new after raise (Err e) b v size_is ok err =
-        let r : Result A JournalError = Err e in
-        both-held new after raise _ size_is err (λ mid did there same. counting.read-newest state most measures count mid.journal.front.mark mid new there same honest r b v tt did)
+      pub read_newest-held : (b : ℕ) (before v : List ℕ) →
+          ReconcilesAnd state old engine (λ (mid : JournalValue D). ReadsNewest state honest mid b before v new r × LeftByRead state honest mid new r) →
+          IsHeld state most measures count after new
+      read_newest-held b before v m =
+          both-held new after raise _ m
+          (λ mid did there. counting.read-newest state most measures count mid.journal.front.mark mid new there did.1.device.stays.shape honest r b v did.0.ok did.0.err)
 
-    pub write_direct-held : {A : Type 0} (new : JournalValue D) (after : ℕ) → after ≡ max raised new.journal.front.mark → (r : Result A JournalError) (b : ℕ) (v : List ℕ) →
-        (state new.device).shape ≡ (state engine.device).shape →
-        OnOk r (ReconcilesAnd state old engine (λ (mid : JournalValue D). MayWriteDirectly mid.journal b × Does state mid (DirectWrite b v) new)) →
-        IfErr r (λ e. ReconcilesAnd state old engine (λ (mid : JournalValue D). DirectWriteRefused state mid b v new e)) → IsHeld state most measures count after new
-    write_direct-held {A} new after raise (Ok a) b v size_is ok err =
-        both-held new after raise _ size_is ok (λ mid did there same. counting.write-direct state most measures count mid.journal.front.mark mid new there same (Ok a) b v did.1 tt)
-    write_direct-held {A} new after raise (Err e) b v size_is ok err =
-        let r : Result A JournalError = Err e in
-        both-held new after raise _ size_is err (λ mid did there same. counting.write-direct state most measures count mid.journal.front.mark mid new there same r b v tt did)
+      pub write_direct-held : (b : ℕ) (v : List ℕ) → ReconcilesAnd state old engine (λ (mid : JournalValue D). WritesDirectly state honest mid b v new r) →
+          IsHeld state most measures count after new
+      write_direct-held b v m =
+          both-held new after raise _ m
+          (λ mid did there. counting.write-direct state most measures count mid.journal.front.mark mid new there did.device.shape r b v did.ok did.err)
 
-    pub sync_direct-held : {A : Type 0} (new : JournalValue D) (after : ℕ) → after ≡ max raised new.journal.front.mark → (r : Result A JournalError) →
-        (state new.device).shape ≡ (state engine.device).shape → OnOk r (ReconcilesAnd state old engine (λ (mid : JournalValue D). Does state mid DirectSync new)) →
-        IfErr r (λ e. ReconcilesAnd state old engine (λ (mid : JournalValue D). DirectSyncRefused state mid new e)) → IsHeld state most measures count after new
-    sync_direct-held {A} new after raise (Ok a) size_is ok err =
-        both-held new after raise _ size_is ok (λ mid did there same. counting.sync-direct state most measures count mid.journal.front.mark mid new there same (Ok a) did tt)
-    sync_direct-held {A} new after raise (Err e) size_is ok err =
-        let r : Result A JournalError = Err e in
-        both-held new after raise _ size_is err (λ mid did there same. counting.sync-direct state most measures count mid.journal.front.mark mid new there same r tt did)
+      pub sync_direct-held : ReconcilesAnd state old engine (λ (mid : JournalValue D). SyncsDirectly state honest mid new r) → IsHeld state most measures count after new
+      sync_direct-held m =
+          both-held new after raise _ m (λ mid did there. counting.sync-direct state most measures count mid.journal.front.mark mid new there did.device.shape r did.ok did.err)
 
   -- Whatever a call after a reconciliation answers, every holder's facts are preserved.
-  pub read-know : (new : JournalValue D) (e : JournalError) (h : HandleValue) (b : ℕ) →
-      ReconcilesAnd state old engine (λ (mid : JournalValue D). ReadRefused state mid h b new e) → AllStillKnow old.journal.front new.journal.front
-  read-know new e h b m = both-know new _ m (λ mid did. calls.refused_read state mid new h b e did)
+  pub read-know : (honest : D → Type 0) (new : JournalValue D) (e : JournalError) (h : HandleValue) (b : ℕ) (before v : List ℕ) (T : Type 0) →
+      ReconcilesAnd state old engine (λ (mid : JournalValue D). Reads {A = T} state honest mid h b before v new (Err e) × LeftByRead {A = T} state honest mid new (Err e)) →
+      AllStillKnow old.journal.front new.journal.front
+  read-know honest new e h b before v T m = both-know new _ m (λ mid did. calls.refused_read state mid new h b e did.0.err)
 
-  pub read_newest-know : {A : Type 0} (honest : D → Type 0) (new : JournalValue D) (r : Result A JournalError) (b : ℕ) (v : List ℕ) →
-      OnOk r (ReconcilesAnd state old engine (λ (mid : JournalValue D). ReadsNewest state honest mid b v new)) →
-      IfErr r (λ e. ReconcilesAnd state old engine (λ (mid : JournalValue D). NewestRefused state mid b new e)) → AllStillKnow old.journal.front new.journal.front
-  read_newest-know honest new (Ok a) b v ok err = both-know new _ ok (λ mid did. calls.read_newest state mid new honest b v did)
-  read_newest-know honest new (Err e) b v ok err = both-know new _ err (λ mid did. calls.refused_read_newest state mid new b e did)
+  module _ {A : Type 0} (honest : D → Type 0) (new : JournalValue D) (r : Result A JournalError) where
+    pub read_newest-know : (b : ℕ) (before v : List ℕ) →
+        ReconcilesAnd state old engine (λ (mid : JournalValue D). ReadsNewest state honest mid b before v new r × LeftByRead state honest mid new r) →
+        AllStillKnow old.journal.front new.journal.front
+    read_newest-know b before v m = both-know new _ m (λ mid did. all-read_newest state mid new honest r b v did.0.ok did.0.err)
 
-  pub write_direct-know : {A : Type 0} (new : JournalValue D) (r : Result A JournalError) (b : ℕ) (v : List ℕ) →
-      OnOk r (ReconcilesAnd state old engine (λ (mid : JournalValue D). MayWriteDirectly mid.journal b × Does state mid (DirectWrite b v) new)) →
-      IfErr r (λ e. ReconcilesAnd state old engine (λ (mid : JournalValue D). DirectWriteRefused state mid b v new e)) → AllStillKnow old.journal.front new.journal.front
-  write_direct-know new (Ok a) b v ok err = both-know new _ ok (λ mid did. calls.direct_write state mid new b v did.1)
-  write_direct-know new (Err e) b v ok err = both-know new _ err (λ mid did. calls.refused_direct_write state mid new b v e did)
+    pub write_direct-know : (b : ℕ) (v : List ℕ) → ReconcilesAnd state old engine (λ (mid : JournalValue D). WritesDirectly state honest mid b v new r) →
+        AllStillKnow old.journal.front new.journal.front
+    write_direct-know b v m = both-know new _ m (λ mid did. all-write_direct state mid new r b v did.ok did.err)
 
-  pub sync_direct-know : {A : Type 0} (new : JournalValue D) (r : Result A JournalError) →
-      OnOk r (ReconcilesAnd state old engine (λ (mid : JournalValue D). Does state mid DirectSync new)) →
-      IfErr r (λ e. ReconcilesAnd state old engine (λ (mid : JournalValue D). DirectSyncRefused state mid new e)) → AllStillKnow old.journal.front new.journal.front
-  sync_direct-know new (Ok a) ok err = both-know new _ ok (λ mid did. calls.direct_sync state mid new did)
-  sync_direct-know new (Err e) ok err = both-know new _ err (λ mid did. calls.refused_direct_sync state mid new e did)
+    pub sync_direct-know : ReconcilesAnd state old engine (λ (mid : JournalValue D). SyncsDirectly state honest mid new r) → AllStillKnow old.journal.front new.journal.front
+    sync_direct-know m = both-know new _ m (λ mid did. all-sync_direct state mid new r did.ok did.err)
 
 -- A read at the front changes nothing counted.
 pub held-read : {D : Type 0} (state : D → DeviceState) (most : ℕ) (measures : Shape) (count raised : ℕ) (old new : JournalValue D) → IsHeld state most measures count raised old →

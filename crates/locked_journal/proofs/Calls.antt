@@ -10,19 +10,16 @@ use Rattle.journal_model.specs.declared.transaction.Step.{Step}
 use Rattle.journal_world.specs.Front.{Front, FrontHappens, aborting, finishing, locking, next_handle, raising, read_step, reserving, revoke_step, write_step}
 use Rattle.journal_world.specs.Front.FrontEvent.{ExtendHandle, Join, RevokeBlock, StopHandle, WriteBlock}
 use Rattle.journal_world.specs.Journal.{Event, Journal}
-use Rattle.journal_world.specs.Journal.Event.{CheckpointFault, CommitFault, DirectSync, DirectWrite, FrontStep}
+use Rattle.journal_world.specs.Journal.Event.{CommitFault, DirectSync, DirectWrite, FrontStep}
 use Rattle.journal_front.specs.Front.{IsOpenHandle, Spends}
 use Rattle.journal_front.specs.Values.{HandleValue}
-use Rattle.journal_steps.specs.declared.turn.CheckTurn.{CheckTurn}
-use Rattle.journal_steps.specs.declared.turn.CheckTurn.TheVariants.{Idle as IdleCheck, Step as StepCheck, Released}
 use Rattle.journal_steps.specs.declared.turn.Turn.{Turn}
 use Rattle.journal_steps.specs.declared.turn.Turn.TheVariants.{Idle as IdleTurn, Waiting, Step as StepTurn, Sealed, Committed}
 use Rattle.journal_steps.specs.Direct.{DirectSyncRefused, DirectWriteRefused}
 use Rattle.journal_steps.specs.Direct.DirectSyncRefused.{SyncAborted, SyncFailed}
 use Rattle.journal_steps.specs.Direct.DirectWriteRefused.{WriteAborted, WriteOutside, WriteNotDirect, WriteFailed}
 use Rattle.journal_steps.specs.Handles.{KeepsHandles}
-use Rattle.journal_steps.specs.Journal.{CheckTurnDid, CheckTurnRefused, Does, FailsAndNotifies, NewestRefused, RegistersRead, ReadRefused, ReadsNewest, Requests, TurnDid, TurnRefused}
-use Rattle.journal_steps.specs.Journal.CheckTurnRefused.{CheckAborted, CheckFailed}
+use Rattle.journal_steps.specs.Journal.{Does, FailsAndNotifies, NewestRefused, RegistersRead, ReadRefused, NewestDid, Requests, TurnDid, TurnRefused}
 use Rattle.journal_steps.specs.Journal.NewestRefused.{NewestAborted, NewestOutside, NewestRevoked, NewestFailed}
 use Rattle.journal_steps.specs.Journal.ReadRefused.{ReadKeptOut, ReadRevoked, ReadUnnoted, ReadFailed}
 use Rattle.journal_steps.specs.Journal.TurnRefused.{WasAborted, RingIsShort, MemoryIsShort, DeviceFailed}
@@ -195,15 +192,6 @@ module _ {D : Type 0} (state : D → DeviceState) (old new : JournalValue D) whe
   refused_turn e (MemoryIsShort due room same) = same-front f g (ap (λ (v : JournalValue D). v.journal.front) same)
   refused_turn e (DeviceFailed fails faults) = told CommitFault fails fails.mid.front fails.fails.front fails.notifies.front
 
-  pub check_turn : (t : CheckTurn) → CheckTurnDid state t old new → AllStillKnow f g
-  check_turn IdleCheck did = same-front f g (ap (λ (j : Journal). j.front) did.1)
-  check_turn StepCheck did = same-front f g did.0.front
-  check_turn (Released tid) did = same-front f g did.0.front
-
-  pub refused_check_turn : (e : JournalError) → CheckTurnRefused state old new e → AllStillKnow f g
-  refused_check_turn e (CheckAborted was same stays faults) = same-front f g (ap (λ (j : Journal). j.front) same)
-  refused_check_turn e (CheckFailed fails faults) = told CheckpointFault fails fails.mid.front fails.fails.front fails.notifies.front
-
   pub refused_read : (h : HandleValue) (b : ℕ) (e : JournalError) → ReadRefused state old h b new e → AllStillKnow f g
   refused_read h b e (ReadKeptOut out same) = same-front f g (ap (λ (v : JournalValue D). v.journal.front) same)
   refused_read h b e (ReadRevoked may last same is) = same-front f g (ap (λ (v : JournalValue D). v.journal.front) same)
@@ -211,7 +199,7 @@ module _ {D : Type 0} (state : D → DeviceState) (old new : JournalValue D) whe
   refused_read h b e (ReadFailed may last none fails faults is) = made-beside f (aborting f) g fails.front refl refl refl refl
 
   -- A read without a handle is nobody's step.
-  pub read_newest : (honest : D → Type 0) (b : ℕ) (v : List ℕ) → ReadsNewest state honest old b v new → AllStillKnow f g
+  pub read_newest : (honest : D → Type 0) (b : ℕ) (v : List ℕ) → NewestDid state honest old b v new → AllStillKnow f g
   read_newest honest b v read = same-front f g (ap (λ (j : Journal). j.front) read.same)
 
   pub refused_read_newest : (b : ℕ) (e : JournalError) → NewestRefused state old b new e → AllStillKnow f g

@@ -21,18 +21,19 @@ use Rattle.log_engine.specs.Engine.{EngineValue}
 use Rattle.journal_front.specs.Values.{HandleValue}
 use Rattle.journal_steps.specs.declared.turn.Turn.{Turn}
 use Rattle.journal_steps.specs.declared.turn.Turn.TheVariants.{Idle as IdleTurn, Waiting, Step as StepTurn, Sealed, Committed}
-use Rattle.journal_steps.specs.Direct.{DirectSyncRefused, DirectWriteRefused, MayWriteDirectly}
+use Rattle.journal_steps.specs.Direct.{DirectSyncRefused, DirectWriteRefused}
 use Rattle.journal_steps.specs.Direct.DirectSyncRefused.{SyncAborted, SyncFailed}
 use Rattle.journal_steps.specs.Direct.DirectWriteRefused.{WriteAborted, WriteFailed, WriteNotDirect, WriteOutside}
-use Rattle.journal_steps.specs.Journal.{Does, FailsAndNotifies, NewestRefused, RegistersRead, ReadRefused, ReadsNewest, Requests, SealDid, TurnDid, TurnRefused}
+use Rattle.journal_steps.specs.Journal.{Does, FailsAndNotifies, NewestRefused, ReadRefused, NewestDid, Requests, SealDid, TurnDid, TurnRefused}
 use Rattle.journal_steps.specs.Journal.NewestRefused.{NewestAborted, NewestFailed, NewestOutside, NewestRevoked}
 use Rattle.journal_steps.specs.Journal.ReadRefused.{ReadFailed, ReadKeptOut, ReadRevoked, ReadUnnoted}
 use Rattle.journal_steps.specs.Journal.TurnRefused.{DeviceFailed, MemoryIsShort, RingIsShort, WasAborted}
 use Rattle.journal_steps.specs.Values.{JournalValue}
+use Rattle.journal_steps.specs.Verbs.{LeftByRead, Reads, ReadsNewest, SyncsDirectly, WritesDirectly}
 use Rattle.group_commit.specs.Close.{ComesTo}
 use Rattle.group_commit.specs.Extension.{Extends, Starts}
-use Rattle.journal_sides.specs.Sides.{HeldReadDid, Reconciles, ReconcilesAnd, engine_of}
-use Rattle.journal_sides.proofs.Moving.{reconciler-moves}
+use Rattle.locked_journal.specs.Sides.{HeldReadDid, Reconciles, ReconcilesAnd, engine_of}
+use Rattle.locked_journal.proofs.Moving.{reconciler-moves}
 use Rattle.locked_journal.specs.Begun.{ComesFrom, IsReached, epoch_since, world_begun, world_since}
 
 -- Without the right to write directly, the step is no direct write.
@@ -186,6 +187,28 @@ module _ {D : Type 0} (state : D → DeviceState) (honest : D → Type 0) (name 
   from-sync_refused _ back (SyncAborted aborted same) = from-same same
   from-sync_refused _ back (SyncFailed did faults) = from-step DirectSyncFault (λ without directs. refl) back did
 
+  -- Whatever a call answers.
+  from-read_answer : {A : Type 0} (r : Result A JournalError) (h : HandleValue) (b : ℕ) (v : List ℕ) → OnlyReads state honest old.device new.device →
+      OnOk r (honest new.device → Does state old (ReadBlock h.number b v) new) → IfErr r (ReadRefused state old h b new) → ComesFrom state honest name new
+  from-read_answer (Ok a) h b v only ok err =
+      record { reached = λ well. (from-step (ReadBlock h.number b v) (λ without directs. refl) only.honest (ok well)).reached well }
+  from-read_answer (Err e) h b v only ok err = from-read_refused h b e only.honest only.stays.disk err
+
+  from-newest_answer : {A : Type 0} (r : Result A JournalError) (b : ℕ) (v : List ℕ) → OnlyReads state honest old.device new.device →
+      OnOk r (NewestDid state honest old b v new) → IfErr r (NewestRefused state old b new) → ComesFrom state honest name new
+  from-newest_answer (Ok a) b v only ok err = from-alike only.honest ok.same only.stays.disk
+  from-newest_answer (Err e) b v only ok err = from-newest_refused b e only.honest err
+
+  from-write_answer : {A : Type 0} (r : Result A JournalError) (b : ℕ) (v : List ℕ) → name.direct ≡ true → (honest new.device → honest old.device) →
+      OnOk r (Does state old (DirectWrite b v) new) → IfErr r (DirectWriteRefused state old b v new) → ComesFrom state honest name new
+  from-write_answer (Ok a) b v right back ok err = from-step (DirectWrite b v) (permitted-write name b v right) back ok
+  from-write_answer (Err e) b v right back ok err = from-write_refused b v e right back err
+
+  from-sync_answer : {A : Type 0} (r : Result A JournalError) → (honest new.device → honest old.device) → OnOk r (Does state old DirectSync new) →
+      IfErr r (DirectSyncRefused state old new) → ComesFrom state honest name new
+  from-sync_answer (Ok a) back ok err = from-step DirectSync (λ without directs. refl) back ok
+  from-sync_answer (Err e) back ok err = from-sync_refused e back err
+
 -- Credits are granted, and the handle gets them.
 module _ {D : Type 0} (state : D → DeviceState) (honest : D → Type 0) (name : JournalId) (old new : JournalValue D) (was : ComesFrom state honest name old)
     (same : new.device ≡ old.device) where
@@ -213,64 +236,33 @@ module _ {D : Type 0} (state : D → DeviceState) (honest : D → Type 0) (name 
       ((mid : JournalValue D) → P mid → mid.device ≡ engine.device → ComesFrom state honest name mid → ComesFrom state honest name new) → ComesFrom state honest name new
   from-both new P m step = step m.mid m.did (reconciled-device m.mid m.reconciles) (from-reconciled m.mid m.reconciles)
 
-  module _ (new : JournalValue D) where
-    -- What a read did to the engine's device it did to that of the reconciled journal.
-    only-reads : (after : EngineValue D) → after ≡ engine_of new → OnlyReads state honest engine.device after.device → (mid : JournalValue D) → mid.device ≡ engine.device →
-        OnlyReads state honest mid.device new.device
-    only-reads after is reads mid same =
-        subst (λ (d : D). OnlyReads state honest d new.device) (sym same)
-        (subst (λ (e : EngineValue D). OnlyReads state honest engine.device e.device) is reads)
+  module _ {A : Type 0} (new : JournalValue D) (r : Result A JournalError) where
+    pub from-read : (h : HandleValue) (b : ℕ) (before v : List ℕ) →
+        ReconcilesAnd state old engine (λ (mid : JournalValue D). Reads state honest mid h b before v new r × LeftByRead state honest mid new r) → ComesFrom state honest name new
+    from-read h b before v m =
+        from-both new _ m (λ mid did same there. from-read_answer state honest name mid new there r h b v did.1.device did.0.ok did.0.err)
 
-    pub from-read : {A : Type 0} (r : Result A JournalError) (h : HandleValue) (b : ℕ) (v : List ℕ) (after : EngineValue D) → after ≡ engine_of new →
-        OnlyReads state honest engine.device after.device →
-        OnOk r (ReconcilesAnd state old engine (λ (mid : JournalValue D). RegistersRead state mid h b v new × (honest after.device → Does state mid (ReadBlock h.number b v) new))) →
-        IfErr r (λ e. ReconcilesAnd state old engine (λ (mid : JournalValue D). ReadRefused state mid h b new e)) → ComesFrom state honest name new
-    from-read (Ok a) h b v after is reads ok err =
-        from-both new _ ok (λ mid did same there. record {
-          reached = λ honestly.
-              (from-step state honest name mid new there (ReadBlock h.number b v) (λ without directs. refl) (only-reads after is reads mid same).honest
-              (did.1 (subst honest (sym (ap (λ (e : EngineValue D). e.device) is)) honestly))).reached honestly;
-        })
-    from-read (Err e) h b v after is reads ok err =
-        from-both new _ err (λ mid why same there.
-        let only = only-reads after is reads mid same in from-read_refused state honest name mid new there h b e only.honest only.stays.disk why)
+    pub from-read_newest : (b : ℕ) (before v : List ℕ) →
+        ReconcilesAnd state old engine (λ (mid : JournalValue D). ReadsNewest state honest mid b before v new r × LeftByRead state honest mid new r) → ComesFrom state honest name new
+    from-read_newest b before v m =
+        from-both new _ m (λ mid did same there. from-newest_answer state honest name mid new there r b v did.1.device did.0.ok did.0.err)
 
-    pub from-read_newest : {A : Type 0} (r : Result A JournalError) (b : ℕ) (v : List ℕ) (after : EngineValue D) → after ≡ engine_of new →
-        OnlyReads state honest engine.device after.device → OnOk r (ReconcilesAnd state old engine (λ (mid : JournalValue D). ReadsNewest state honest mid b v new)) →
-        IfErr r (λ e. ReconcilesAnd state old engine (λ (mid : JournalValue D). NewestRefused state mid b new e)) → ComesFrom state honest name new
-    from-read_newest (Ok a) b v after is reads ok err =
-        from-both new _ ok (λ mid did same there.
-        let only = only-reads after is reads mid same in from-alike state honest name mid new there only.honest did.same only.stays.disk)
-    from-read_newest (Err e) b v after is reads ok err =
-        from-both new _ err (λ mid why same there. from-newest_refused state honest name mid new there b e (only-reads after is reads mid same).honest why)
+    pub from-write_direct : (b : ℕ) (v : List ℕ) → name.direct ≡ true →
+        ReconcilesAnd state old engine (λ (mid : JournalValue D). WritesDirectly state honest mid b v new r) → ComesFrom state honest name new
+    from-write_direct b v right m =
+        from-both new _ m (λ mid did same there. from-write_answer state honest name mid new there r b v right did.device.honest did.ok did.err)
 
-    -- Reads of a device that is called at most once were correct before.
-    pub back-called : (P : JournalValue D → Type 0) → ReconcilesAnd state old engine P → ((mid : JournalValue D) → P mid → honest new.device → honest mid.device) →
-        honest new.device → honest engine.device
-    back-called P m back h = subst honest (reconciled-device m.mid m.reconciles) (back m.mid m.did h)
+    pub from-sync_direct : ReconcilesAnd state old engine (λ (mid : JournalValue D). SyncsDirectly state honest mid new r) → ComesFrom state honest name new
+    from-sync_direct m = from-both new _ m (λ mid did same there. from-sync_answer state honest name mid new there r did.device.honest did.ok did.err)
 
-    module _ (back : honest new.device → honest engine.device) where
-      back-to : (mid : JournalValue D) → mid.device ≡ engine.device → honest new.device → honest mid.device
-      back-to mid same h = subst honest (sym same) (back h)
+  module _ (new : JournalValue D) (back : honest new.device → honest engine.device) where
+    back-to : (mid : JournalValue D) → mid.device ≡ engine.device → honest new.device → honest mid.device
+    back-to mid same h = subst honest (sym same) (back h)
 
-      pub from-write_direct : {A : Type 0} (r : Result A JournalError) (b : ℕ) (v : List ℕ) → name.direct ≡ true →
-          OnOk r (ReconcilesAnd state old engine (λ (mid : JournalValue D). MayWriteDirectly mid.journal b × Does state mid (DirectWrite b v) new)) →
-          IfErr r (λ e. ReconcilesAnd state old engine (λ (mid : JournalValue D). DirectWriteRefused state mid b v new e)) → ComesFrom state honest name new
-      from-write_direct (Ok a) b v right ok err =
-          from-both new _ ok (λ mid did same there. from-step state honest name mid new there (DirectWrite b v) (permitted-write name b v right) (back-to mid same) did.1)
-      from-write_direct (Err e) b v right ok err =
-          from-both new _ err (λ mid why same there. from-write_refused state honest name mid new there b v e right (back-to mid same) why)
-
-      pub from-sync_direct : {A : Type 0} (r : Result A JournalError) →
-          OnOk r (ReconcilesAnd state old engine (λ (mid : JournalValue D). Does state mid DirectSync new)) →
-          IfErr r (λ e. ReconcilesAnd state old engine (λ (mid : JournalValue D). DirectSyncRefused state mid new e)) → ComesFrom state honest name new
-      from-sync_direct (Ok a) ok err = from-both new _ ok (λ mid did same there. from-step state honest name mid new there DirectSync (λ without directs. refl) (back-to mid same) did)
-      from-sync_direct (Err e) ok err = from-both new _ err (λ mid why same there. from-sync_refused state honest name mid new there e (back-to mid same) why)
-
-      pub from-sealed : (r : Result (Option Turn) JournalError) → IfOk r (λ turn. ReconcilesAnd state old engine (λ (mid : JournalValue D). SealDid state turn mid new)) →
-          IfErr r (λ e. ReconcilesAnd state old engine (λ (mid : JournalValue D). TurnRefused state mid new e)) → ComesFrom state honest name new
-      from-sealed (Ok t) ok err = from-both new _ ok (λ mid did same there. from-seal state honest name mid new there t (back-to mid same) did)
-      from-sealed (Err e) ok err = from-both new _ err (λ mid why same there. from-turn_refused state honest name mid new there e (back-to mid same) why)
+    pub from-sealed : (r : Result (Option Turn) JournalError) → IfOk r (λ turn. ReconcilesAnd state old engine (λ (mid : JournalValue D). SealDid state turn mid new)) →
+        IfErr r (λ e. ReconcilesAnd state old engine (λ (mid : JournalValue D). TurnRefused state mid new e)) → ComesFrom state honest name new
+    from-sealed (Ok t) ok err = from-both new _ ok (λ mid did same there. from-seal state honest name mid new there t (back-to mid same) did)
+    from-sealed (Err e) ok err = from-both new _ err (λ mid why same there. from-turn_refused state honest name mid new there e (back-to mid same) why)
 
 -- A device that was not called is the engine's of before.
 pub back-uncalled : {D : Type 0} (honest : D → Type 0) (engine after : EngineValue D) (new : JournalValue D) → after ≡ engine_of new → after.device ≡ engine.device →

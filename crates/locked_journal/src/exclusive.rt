@@ -3,11 +3,12 @@ ghost use Rattle.std.specs.Prelude.{◌≡◌, ◌≤◌, length};
 ghost use Rattle.journal_model.specs.Transaction.{entries};
 ghost use Rattle.journal_world.specs.Front.{held, transactions};
 ghost use Rattle.journal_steps.specs.Legal.{KeepsLegal};
-ghost use Rattle.journal_sides.specs.Sides.{Reconciles};
+ghost use Rattle.locked_journal.specs.Sides.{Reconciles};
 ghost use Rattle.locked_journal.specs.Begun.{ComesFrom};
 ghost use Rattle.locked_journal.specs.Own.{Confirms};
 ghost use Rattle.locked_journal.specs.Known.{own_of_ticket};
 
+use crate::both;
 use crate::known::{Knowing, Recorded, look};
 use crate::locked::{Counters, Locked, Tally};
 use crate::name::{EngineSide, SidesReconciler};
@@ -58,7 +59,7 @@ impl<J: JournalName, D: Device, R: Record> Exclusive<J, D, R> {
             knowing,
             mut recorded,
         } = locked;
-        let journal = journal_sides::into_single(reconciler, journal, engine);
+        let journal = both::into_single(reconciler, journal, engine);
         knowing.go_on(&mut recorded, journal.front());
         let notified = journal.mark();
         counters.mark.raise(&mut raiser, notified);

@@ -1,4 +1,5 @@
-//! Laws: which of the holders' facts each step of a journal preserves or adds. The functions have no body to run.
+//! Laws: what an engine did alone are moves of the journal's machine; which of the holders' facts each step of a journal preserves or adds.
+//! The functions have no body to run.
 ghost use Rattle.std.specs.Prelude.{◌≡◌, ◌≢◌, ◌≤◌, ◌+◌, ◌++◌, [], ◌∷◌, List, None, Some, ℕ};
 ghost use Rattle.std.specs.List.{flat_map};
 ghost use Rattle.journal_model.specs.declared.transaction.Step.{Step};
@@ -7,14 +8,34 @@ ghost use Rattle.journal_world.specs.Front.FrontEvent.{ExtendHandle, Join, Revok
 ghost use Rattle.journal_world.specs.Front.{Front, FrontHappens, next_handle, read_step, reading_block, revoke_step, transactions, write_step};
 ghost use Rattle.journal_world.specs.Journal.{Event, Happens, Journal};
 ghost use Rattle.journal_world.specs.Journal.Event.{FrontStep};
+ghost use Rattle.log_engine.specs.Engine.{EngineValue};
+ghost use Rattle.log_epochs.specs.EngineWorld.Phase.{Running};
+ghost use Rattle.group_commit.specs.Close.{ComesTo};
 ghost use Rattle.journal_front.specs.Front.{IsOpenHandle, Spends};
 ghost use Rattle.journal_front.specs.Values.{HandleValue};
 ghost use Rattle.journal_steps.specs.Handles.{KeepsHandles};
 ghost use Rattle.journal_steps.specs.Journal.{Agrees};
+ghost use Rattle.journal_steps.specs.Values.{JournalValue, together};
+ghost use Rattle.locked_journal.specs.Alone.{RanAlone};
 ghost use Rattle.locked_journal.specs.declared.own.OwnSteps.{OwnSteps};
 ghost use Rattle.locked_journal.specs.Knowing.{MayAdd, MayGo, actor};
 ghost use Rattle.locked_journal.specs.Own.{Confirms, IsOwn, open_own, steps_by, stopped_own};
 ghost use Rattle.locked_journal.specs.Run.{HasMade, Runs, block_steps};
+ghost use Rattle.locked_journal.specs.Sides.{Reconciles};
+
+use block_device::Device;
+
+/// The steps of an engine alone are moves of the machine, whatever its front. So what holds of every run holds of them.
+pub fn what_an_engine_did_alone_are_moves_of_its_journal<D: Device>()
+    ensures { (f : Front) (old new : EngineValue D) → RanAlone D.state old new →
+        ComesTo (together f old).journal (D.state old.device).disk (together f new).journal (D.state new.device).disk Running }
+{}
+
+/// A reconciliation is moves of the machine: the engine's steps, then the front's learning of a failure or of a commit.
+pub fn a_reconciliation_makes_moves_of_its_journal<D: Device>()
+    ensures { (front mid : JournalValue D) (engine : EngineValue D) → Reconciles D.state front engine mid →
+        ComesTo front.journal (D.state front.device).disk mid.journal (D.state mid.device).disk Running }
+{}
 
 /// Each step preserves the facts of every holder but the one whose handle makes it.
 pub fn a_step_leaves_the_others_what_they_know()

@@ -10,7 +10,7 @@
 //!
 //! Each part is a line. Other blocks are zeros. `spelling` has the spelling of a block.
 use crate::RowError;
-use crate::spelling::{Measures, block_of};
+use crate::spelling::{SuperblockMeasures, block_of};
 use crate::words::{count, cut, number};
 use block_device::{Device, MemDevice};
 use journal_model::{Area, Block, Items};
@@ -20,14 +20,14 @@ use std::alloc::{AllocError, Global};
 #[derive(Clone, Copy)]
 pub struct Shape {
     /// Bytes of a block, blocks of the log's area, and the width of block numbers.
-    pub measures: Measures,
+    pub measures: SuperblockMeasures,
     /// Blocks of home.
     pub home_blocks: u64,
 }
 
 /// Measures that a row has unless it states others.
 const USUAL: Shape = Shape {
-    measures: Measures {
+    measures: SuperblockMeasures {
         block_size: 1024,
         log_blocks: 33,
         wide: false,
@@ -37,7 +37,7 @@ const USUAL: Shape = Shape {
 
 /// A log that a row spells.
 #[derive(Drop)]
-pub struct Log {
+pub struct RowLog {
     /// The measures of its device.
     pub shape: Shape,
     /// The spelled blocks with their places, in the order of their lines.
@@ -81,7 +81,7 @@ fn split_shape(given: &str) -> Result<(Shape, &str), RowError> {
 fn push_line(
     alloc: Global,
     blocks: &mut Items<(u64, Block)>,
-    measures: &Measures,
+    measures: &SuperblockMeasures,
     line: &str,
 ) -> Result<(), RowError> {
     let (first, spelled) = cut(line, ":")?;
@@ -95,17 +95,17 @@ fn push_line(
 }
 
 /// The log that a text spells.
-pub fn log_of(alloc: Global, given: &str) -> Result<Log, RowError> {
+pub fn log_of(alloc: Global, given: &str) -> Result<RowLog, RowError> {
     let (shape, lines) = split_shape(given)?;
     let mut blocks = Items::new(alloc);
     for line in lines.lines() {
         push_line(alloc, &mut blocks, &shape.measures, line)?;
     }
-    Ok(Log { shape, blocks })
+    Ok(RowLog { shape, blocks })
 }
 
 /// The block at a place of the log's area; zeros if no line spells it.
-pub fn block_at(alloc: Global, log: &Log, place: u64) -> Result<Block, AllocError> {
+pub fn block_at(alloc: Global, log: &RowLog, place: u64) -> Result<Block, AllocError> {
     for (other, block) in log.blocks.as_slice().iter().rev() {
         if *other == place {
             return block.try_clone();
@@ -123,8 +123,8 @@ fn write_block(device: &mut MemDevice, place: u64, bytes: &[u8]) -> Result<(), R
 }
 
 /// A device that lost power with a log on it. No write is counted yet, and home is zeros.
-pub fn device_of(alloc: Global, log: &Log) -> Result<MemDevice, RowError> {
-    let Measures {
+pub fn device_of(alloc: Global, log: &RowLog) -> Result<MemDevice, RowError> {
+    let SuperblockMeasures {
         block_size,
         log_blocks,
         wide: _,

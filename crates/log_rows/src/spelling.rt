@@ -39,7 +39,7 @@ const MOST_BYTES: usize = 4096;
 
 /// The measures of a formatted superblock.
 #[derive(Clone, Copy)]
-pub struct Measures {
+pub struct SuperblockMeasures {
     /// Bytes of a block.
     pub block_size: usize,
     /// Blocks of the log's area.
@@ -61,7 +61,11 @@ pub fn layout_in(block_size: usize, wide: bool) -> LogLayout
 }
 
 /// The block that these words spell.
-pub fn block_of(alloc: Global, measures: &Measures, words: &str) -> Result<Vec<u8>, RowError> {
+pub fn block_of(
+    alloc: Global,
+    measures: &SuperblockMeasures,
+    words: &str,
+) -> Result<Vec<u8>, RowError> {
     let (words, rest) = match words.rsplit_once(" ..") {
         Some((words, byte)) => (words, hex_byte(byte)?),
         None => (words, 0),
@@ -78,7 +82,11 @@ pub fn block_of(alloc: Global, measures: &Measures, words: &str) -> Result<Vec<u
 }
 
 /// Adds a word, as often as it says.
-fn push_word(bytes: &mut Vec<u8>, measures: &Measures, word: &str) -> Result<(), RowError> {
+fn push_word(
+    bytes: &mut Vec<u8>,
+    measures: &SuperblockMeasures,
+    word: &str,
+) -> Result<(), RowError> {
     let (times, word) = match word.split_once('*') {
         Some((times, word)) => (count(times)?, word),
         None => (1, word),
@@ -92,7 +100,11 @@ fn push_word(bytes: &mut Vec<u8>, measures: &Measures, word: &str) -> Result<(),
     Ok(())
 }
 
-fn push_one(bytes: &mut Vec<u8>, measures: &Measures, word: &str) -> Result<(), RowError> {
+fn push_one(
+    bytes: &mut Vec<u8>,
+    measures: &SuperblockMeasures,
+    word: &str,
+) -> Result<(), RowError> {
     if let Some((name, value)) = word.split_once('=') {
         return push_named(bytes, name, value);
     }
@@ -135,7 +147,11 @@ fn narrow(number: u64) -> Result<u32, RowError> {
     u32::try_from(number).ok().ok_or(RowError::Unread)
 }
 
-fn push_numbers(bytes: &mut Vec<u8>, measures: &Measures, word: &str) -> Result<(), RowError> {
+fn push_numbers(
+    bytes: &mut Vec<u8>,
+    measures: &SuperblockMeasures,
+    word: &str,
+) -> Result<(), RowError> {
     let (first, last) = short_series(word)?;
     for number in first..=last {
         if measures.wide {
@@ -150,7 +166,7 @@ fn push_numbers(bytes: &mut Vec<u8>, measures: &Measures, word: &str) -> Result<
 /// Adds tags; the text after the slash follows the lower half of each number.
 fn push_tags(
     bytes: &mut Vec<u8>,
-    measures: &Measures,
+    measures: &SuperblockMeasures,
     blocks: &str,
     flags: &str,
 ) -> Result<(), RowError> {
@@ -172,7 +188,7 @@ fn push_tag(bytes: &mut Vec<u8>, wide: bool, block: u64, flags: u32) -> Result<(
     push_number(bytes, flags)
 }
 
-fn push_super(bytes: &mut Vec<u8>, measures: &Measures) -> Result<(), RowError> {
+fn push_super(bytes: &mut Vec<u8>, measures: &SuperblockMeasures) -> Result<(), RowError> {
     let length = narrow(measures.log_blocks)?;
     let block_size = narrow(measures.block_size as u64)?;
     let features = if measures.wide { 3 } else { 1 };

@@ -75,6 +75,8 @@ pub const ENOMEM: u32 = 12;
 pub const EINVAL: u32 = 22;
 /// Error: a change past the end.
 pub const ENOSPC: u32 = 28;
+/// Error: the server ends.
+pub const ESHUTDOWN: u32 = 108;
 
 /// The most bytes of a read or a write.
 pub const MOST_BYTES: u32 = 32 << 20;

@@ -1,5 +1,5 @@
 -- What a call that changes a range does of a request, or leaves of it.
-use Rattle.std.proofs.Common.{◌≡◌, ◌≢◌, ap, subst, ◌∙◌, ℕ, List, Err, IfErr, Ok, OnErr, OnOk, Result, length, replicate}
+use Rattle.std.proofs.Common.{◌≡◌, ◌≢◌, ap, subst, ◌∙◌, ℕ, List, Err, IfErr, IfOk, IfSome, None, Ok, OnErr, Option, Result, Some, length, replicate}
 use Rattle.block_device.specs.State.{DeviceState}
 use Rattle.journal_model.specs.declared.refusal.JournalError.{JournalError}
 use Rattle.handle.specs.Name.{JournalId}
@@ -9,34 +9,38 @@ use Rattle.byte_volume.specs.Writing.{TrimsBlocks, TrimsSome, WritesAll, WritesS
 use Rattle.nbd_protocol.specs.declared.request.Request.{Request}
 use Rattle.nbd_protocol.specs.Requests.{IsChange}
 use Rattle.nbd_protocol.specs.Requests.IsChange.{Trims, Writes, WritesZeros}
-use Rattle.nbd_server.specs.Answers.{IsDone}
+use Rattle.nbd_server.specs.Answers.{EndsEarly, IsDone}
+use Rattle.nbd_server.specs.Answers.EndsEarly.{TrimmedSome, ZeroedSome}
 use Rattle.nbd_server.specs.Answers.IsDone.{Trimmed, Written, Zeroed}
 use Rattle.nbd_server.specs.Causes.{ChangeFails}
 use Rattle.nbd_server.specs.Causes.ChangeFails.{OfTrim, OfWrite, OfZeros}
 
 -- a write; `all` is another name of its bytes
-pub written : {D T E : Type 0} (state : D → DeviceState) (honest : D → Type 0) (name : JournalId) (size capacity : ℕ) (r : Request) (bytes all : List ℕ) (tickets : List TicketKnown)
-    (result : Result T E) → r.command ≡ 1 → length bytes ≡ r.length → all ≡ bytes → OnOk result (WritesAll state honest name size capacity r.offset all tickets) →
-    OnOk result (IsDone state honest name size capacity r bytes tickets)
-written state honest name size capacity r bytes all tickets (Ok done) is long same wrote =
+pub written : {D : Type 0} (state : D → DeviceState) (honest : D → Type 0) (name : JournalId) (size capacity : ℕ) (r : Request) (bytes all : List ℕ) (tickets : List TicketKnown) →
+    r.command ≡ 1 → length bytes ≡ r.length → all ≡ bytes → WritesAll state honest name size capacity r.offset all tickets → IsDone state honest name size capacity r bytes tickets
+written state honest name size capacity r bytes all tickets is long same wrote =
     Written is long (subst (λ (xs : List ℕ). WritesAll state honest name size capacity r.offset xs tickets) same wrote)
-written state honest name size capacity r bytes all tickets (Err e) is long same wrote = tt
 
-pub write_failed : {D T : Type 0} (state : D → DeviceState) (honest : D → Type 0) (name : JournalId) (size capacity : ℕ) (r : Request) (bytes all : List ℕ) (tickets : List TicketKnown)
-    (result : Result T JournalError) → r.command ≡ 1 → length bytes ≡ r.length → all ≡ bytes →
-    IfErr result (WriteRefused state size capacity r.offset (length all)) → OnErr result (WritesSome state honest name size r.offset all tickets) →
-    IfErr result (ChangeFails state honest name size capacity r bytes tickets)
-write_failed state honest name size capacity r bytes all tickets (Ok done) is long same why left = tt
-write_failed state honest name size capacity r bytes all tickets (Err e) is long same why left =
+pub write_failed : {D : Type 0} (state : D → DeviceState) (honest : D → Type 0) (name : JournalId) (size capacity : ℕ) (r : Request) (bytes all : List ℕ) (tickets : List TicketKnown)
+    (e : JournalError) → r.command ≡ 1 → length bytes ≡ r.length → all ≡ bytes → WriteRefused state size capacity r.offset (length all) e →
+    WritesSome state honest name size r.offset all tickets → ChangeFails state honest name size capacity r bytes tickets e
+write_failed state honest name size capacity r bytes all tickets e is long same why left =
     OfWrite is (subst (λ (n : ℕ). WriteRefused state size capacity r.offset n e) (ap length same ∙ long) why)
     (subst (λ (xs : List ℕ). WritesSome state honest name size r.offset xs tickets) same left)
 
 -- a write of zeros
-pub zeroed : {D T E : Type 0} (state : D → DeviceState) (honest : D → Type 0) (name : JournalId) (size capacity : ℕ) (r : Request) (bytes : List ℕ) (tickets : List TicketKnown)
-    (result : Result T E) → r.command ≡ 6 → OnOk result (WritesAll state honest name size capacity r.offset (replicate r.length 0) tickets) →
-    OnOk result (IsDone state honest name size capacity r bytes tickets)
-zeroed state honest name size capacity r bytes tickets (Ok done) is wrote = Zeroed is wrote
+pub zeroed : {D X E : Type 0} (state : D → DeviceState) (honest : D → Type 0) (name : JournalId) (size capacity : ℕ) (r : Request) (bytes : List ℕ) (tickets : List TicketKnown)
+    (result : Result (Option X) E) → r.command ≡ 6 → IfOk result (λ early. early ≡ None → WritesAll state honest name size capacity r.offset (replicate r.length 0) tickets) →
+    IfOk result (λ early. early ≡ None → IsDone state honest name size capacity r bytes tickets)
+zeroed state honest name size capacity r bytes tickets (Ok early) is wrote = λ whole. Zeroed is (wrote whole)
 zeroed state honest name size capacity r bytes tickets (Err e) is wrote = tt
+
+pub zeroed_some : {D X E : Type 0} (state : D → DeviceState) (honest : D → Type 0) (name : JournalId) (size : ℕ) (r : Request) (tickets : List TicketKnown)
+    (result : Result (Option X) E) → r.command ≡ 6 → IfOk result (λ early. IfSome early (λ _. WritesSome state honest name size r.offset (replicate r.length 0) tickets)) →
+    IfOk result (λ early. IfSome early (λ _. EndsEarly state honest name size r tickets))
+zeroed_some state honest name size r tickets (Ok None) is some = tt
+zeroed_some state honest name size r tickets (Ok (Some by)) is some = ZeroedSome is some
+zeroed_some state honest name size r tickets (Err e) is some = tt
 
 pub zeros_failed : {D T : Type 0} (state : D → DeviceState) (honest : D → Type 0) (name : JournalId) (size capacity : ℕ) (r : Request) (bytes : List ℕ) (tickets : List TicketKnown)
     (result : Result T JournalError) → r.command ≡ 6 → IfErr result (WriteRefused state size capacity r.offset r.length) →
@@ -45,11 +49,20 @@ zeros_failed state honest name size capacity r bytes tickets (Ok done) is why le
 zeros_failed state honest name size capacity r bytes tickets (Err e) is why left = OfZeros is why left
 
 -- a trim
-pub trimmed : {D T E : Type 0} (state : D → DeviceState) (honest : D → Type 0) (name : JournalId) (size capacity : ℕ) (r : Request) (bytes : List ℕ) (tickets : List TicketKnown)
-    (result : Result T E) → r.command ≡ 4 → OnOk result (TrimsBlocks state honest name (first_whole size r.offset) tickets (whole_blocks size r.offset r.length)) →
-    OnOk result (IsDone state honest name size capacity r bytes tickets)
-trimmed state honest name size capacity r bytes tickets (Ok done) is trims = Trimmed is trims
+pub trimmed : {D X E : Type 0} (state : D → DeviceState) (honest : D → Type 0) (name : JournalId) (size capacity : ℕ) (r : Request) (bytes : List ℕ) (tickets : List TicketKnown)
+    (result : Result (Option X) E) → r.command ≡ 4 →
+    IfOk result (λ early. early ≡ None → TrimsBlocks state honest name (first_whole size r.offset) tickets (whole_blocks size r.offset r.length)) →
+    IfOk result (λ early. early ≡ None → IsDone state honest name size capacity r bytes tickets)
+trimmed state honest name size capacity r bytes tickets (Ok early) is trims = λ whole. Trimmed is (trims whole)
 trimmed state honest name size capacity r bytes tickets (Err e) is trims = tt
+
+pub trimmed_some : {D X E : Type 0} (state : D → DeviceState) (honest : D → Type 0) (name : JournalId) (size : ℕ) (r : Request) (tickets : List TicketKnown)
+    (result : Result (Option X) E) → r.command ≡ 4 →
+    IfOk result (λ early. IfSome early (λ _. TrimsSome state honest name (first_whole size r.offset) (whole_blocks size r.offset r.length) tickets)) →
+    IfOk result (λ early. IfSome early (λ _. EndsEarly state honest name size r tickets))
+trimmed_some state honest name size r tickets (Ok None) is some = tt
+trimmed_some state honest name size r tickets (Ok (Some by)) is some = TrimmedSome is some
+trimmed_some state honest name size r tickets (Err e) is some = tt
 
 pub trim_failed : {D T : Type 0} (state : D → DeviceState) (honest : D → Type 0) (name : JournalId) (size capacity : ℕ) (r : Request) (bytes : List ℕ) (tickets : List TicketKnown)
     (result : Result T JournalError) → r.command ≡ 4 → IfErr result (TrimRefused D size capacity r.offset r.length) →

@@ -8,14 +8,13 @@ use Rattle.locked_journal.specs.Known.{TicketKnown}
 use Rattle.shared_journal.specs.Moments.{WasLastJoinedHere}
 use Rattle.shared_journal.specs.Waiting.{NotAwaited}
 use Rattle.byte_volume.specs.Reading.{ReadsRange}
-use Rattle.byte_volume.specs.Writing.{TrimsBlocks, WritesAll, first_whole, whole_blocks}
+use Rattle.byte_volume.specs.Writing.{TrimsBlocks, TrimsSome, WritesAll, WritesSome, first_whole, whole_blocks}
 use Rattle.nbd_protocol.specs.declared.request.Request.{Request}
 use Rattle.nbd_protocol.specs.Layout.{simple_reply}
-use Rattle.nbd_protocol.specs.Requests.{IsChange, IsTaken, WantsCommit}
+use Rattle.nbd_protocol.specs.Requests.{IsChange, WantsCommit}
 use Rattle.nbd_server.specs.declared.replies.Answer.{Answer}
 use Rattle.nbd_server.specs.declared.replies.Answer.TheVariants.{Bytes, Later, Now}
-use Rattle.nbd_server.specs.Causes.{ChangeFails, NotTaken, ReadFails, error_number}
-use Rattle.nbd_server.specs.Input.{TakesPayload}
+use Rattle.nbd_server.specs.Causes.{ChangeFails, ReadFails, error_number}
 use Rattle.nbd_server.specs.Owing.{DueValue}
 
 -- at a moment of the named journal, this number was at least the last transaction that a handle had joined
@@ -46,6 +45,11 @@ pub data IsDone {D : Type 0} (state : D → DeviceState) (honest : D → Type 0)
   NoBytes : r.length ≡ 0 → tickets ≡ [] → IsDone state honest name size capacity r bytes tickets
   NoChange : (IsChange r → ⊥) → tickets ≡ [] → IsDone state honest name size capacity r bytes tickets
 
+-- a trim or a write of zeros ended early: the handles of these tickets did the first part of it
+pub data EndsEarly {D : Type 0} (state : D → DeviceState) (honest : D → Type 0) (name : JournalId) (size : ℕ) (r : Request) (tickets : List TicketKnown) : Type 0 where
+  ZeroedSome : r.command ≡ 6 → WritesSome state honest name size r.offset (replicate r.length 0) tickets → EndsEarly state honest name size r tickets
+  TrimmedSome : r.command ≡ 4 → TrimsSome state honest name (first_whole size r.offset) (whole_blocks size r.offset r.length) tickets → EndsEarly state honest name size r tickets
+
 -- the answer to a read: success, then the bytes of its range
 pub record AnswersRead {D : Type 0} (state : D → DeviceState) (honest : D → Type 0) (name : JournalId) (size : ℕ) (r : Request) (reply : List ℕ) : Type 0 where
   pub bytes : List ℕ
@@ -58,27 +62,18 @@ abbrev pub volume_size : Shape → ℕ → ℕ
 volume_size shape nameable = min (min shape.home_blocks nameable * shape.block_size) (2 ^ 64 - 1)
 
 -- a request that the volume takes was performed, by the handles of these tickets; `bytes` followed it, and handles up to this number are
--- noted. The answer is the error of a read or a change that failed; a read's bytes; success of a change that wants no commit; or, for one
--- that does, owed
+-- noted. The answer is the error of a read or a change that failed, or of one that ended early; a read's bytes; success of a change that
+-- wants no commit; or, for one that does, owed
 pub data IsPerformed {D : Type 0} (state : D → DeviceState) (honest : D → Type 0) (name : JournalId) (size capacity : ℕ) (r : Request) (bytes : List ℕ) (upto : ℕ) (tickets : List TicketKnown)
     {I : Type 0} (a : Answer I) : Type 0 where
   AsUnread : (why : JournalError) → r.command ≡ 0 → ReadFails state r why → tickets ≡ [] → a ≡ Now (simple_reply (error_number why) r.cookie) →
       IsPerformed state honest name size capacity r bytes upto tickets a
   AsFailed : (why : JournalError) → ChangeFails state honest name size capacity r bytes tickets why → a ≡ Now (simple_reply (error_number why) r.cookie) →
       IsPerformed state honest name size capacity r bytes upto tickets a
+  AsEarly : EndsEarly state honest name size r tickets → a ≡ Now (simple_reply 108 r.cookie) → IsPerformed state honest name size capacity r bytes upto tickets a
   AsRead : (reply : List ℕ) → r.command ≡ 0 → AnswersRead state honest name size r reply → tickets ≡ [] → a ≡ Bytes reply →
       IsPerformed state honest name size capacity r bytes upto tickets a
   AsDone : r.command ≢ 0 → IsDone state honest name size capacity r bytes tickets → (WantsCommit r → ⊥) → a ≡ Now (simple_reply 0 r.cookie) →
       IsPerformed state honest name size capacity r bytes upto tickets a
   AsOwed : (due : DueValue) → r.command ≢ 0 → IsDone state honest name size capacity r bytes tickets → WantsCommit r → IsOwedTo state honest name r upto due → a ≡ Later due →
       IsPerformed state honest name size capacity r bytes upto tickets a
-
--- the answer to a request: it is not taken, which leaves this, by no handle, and the bytes after it are skipped; or it was performed with
--- them
-pub data IsAnswered {D : Type 0} (state : D → DeviceState) (honest : D → Type 0) (name : JournalId) (shape : Shape) (capacity nameable : ℕ) (read_only : Bool) (r : Request) (upto : ℕ)
-    (tickets : List TicketKnown) (left : Type 0) (came : List ℕ → Type 0) {I : Type 0} (a : Answer I) : Type 0 where
-  Refused : (e : ℕ) (bytes : List ℕ) → e ≢ 0 → NotTaken (volume_size shape nameable) read_only r e → TakesPayload r came bytes → left → tickets ≡ [] →
-      a ≡ Now (simple_reply e r.cookie) → IsAnswered state honest name shape capacity nameable read_only r upto tickets left came a
-  Taken : (bytes : List ℕ) → IsTaken (volume_size shape nameable) read_only r → TakesPayload r came bytes →
-      IsPerformed state honest name shape.block_size capacity r bytes upto tickets a →
-      IsAnswered state honest name shape capacity nameable read_only r upto tickets left came a

@@ -2,3 +2,4 @@ pub mod Owing
 pub mod Causes
 pub mod Input
 pub mod Answers
+pub mod Taking

@@ -1,95 +1,50 @@
-//! Decides how a request is answered, and performs it.
-ghost use Rattle.std.specs.Prelude.{◌≡◌, ◌≢◌, ◌≤◌, [], List, ℕ, length, IfErr, IfOk, OnOk};
-ghost use Rattle.std.specs.Io.KnownBytes.{Consumes};
+//! Performs a request, and decides how it is answered.
+ghost use Rattle.std.specs.Prelude.{◌≡◌, ◌≤◌, length, None, IfErr, IfOk, IfSome};
 ghost use Rattle.byte_volume.specs.Numbers.{last_taken};
 ghost use Rattle.byte_volume.specs.Writing.{AreNoted};
-ghost use Rattle.nbd_protocol.specs.Layout.{simple_reply};
-ghost use Rattle.nbd_server.specs.Answers.{IsAnswered, IsDone, IsPerformed, volume_size};
+ghost use Rattle.nbd_server.specs.Answers.{EndsEarly, IsDone, IsPerformed};
 ghost use Rattle.nbd_server.specs.Causes.{ChangeFails};
-ghost use Rattle.nbd_server.specs.Input.{TakesPayload};
-ghost use Rattle.nbd_server.specs.declared.replies.Answer.TheVariants.{Now};
 
-use crate::asked::{Asked, Payload};
-use crate::buffers::Buffers;
-use crate::export::Export;
+use crate::asked::{Asked, Gone, Payload};
 use crate::replies::{Answer, Due, ReadReply, Reply, error_of};
+use crate::taken::Taken;
 use block_device::Device;
-use byte_volume::{Stopped, Tickets, trim_range, write_range, write_zeros};
+use byte_volume::{Leaving, Stopped, Tickets, trim_range, write_range, write_zeros};
 use journal_model::JournalError;
 use nbd_protocol::Request;
-use nbd_protocol::numbers::{ENOMEM, READ, TRIM, WRITE, WRITE_ZEROES};
+use nbd_protocol::numbers::{READ, TRIM, WRITE, WRITE_ZEROES};
 use shared_journal::{JournalName, Record};
 use std::alloc::Global;
-use std::io;
-use std::io::Read;
 use std::sync::Wait;
 use volume_service::Session;
 
-/// The size in bytes that is offered: home's blocks, or as many of them as the log can name.
-pub(crate) fn volume_bytes<J: JournalName, D: Device, R: Record>(
-    session: &Session<'_, J, D, R>,
-    nameable: u64,
-) -> u64
-    ensures { result ≡ volume_size J.name.shape nameable }
-{
-    session
-        .home_blocks()
-        .min(nameable)
-        .saturating_mul(session.block_size() as u64)
-}
-
-/// Answers a request. A write's bytes come next in the input, and are read whole into a buffer before a handle starts. For a request that is
-/// not taken no handle starts, and its bytes are skipped. `buffers` has the tickets of its handles afterwards, and no others.
-///
-/// # Errors
-///
-/// The client could not be read, or ended within the request: no handle was started.
-pub fn answer<J: JournalName, D: Device, R: Record, I: Read, W: Wait>(
+/// Performs a request that the volume takes, with the bytes after it, and gives their memory back. The answer to a request that wants a
+/// commit is owed until all transactions of handles stopped by now are committed. A long read uses the memory of `room`. `tickets` has those
+/// of the request's handles afterwards, and no others. A change of more than one handle ends early once the client has left.
+pub fn perform<J: JournalName, D: Device, R: Record, I, W: Wait>(
     rt: &W,
     alloc: Global,
     session: &mut Session<'_, J, D, R>,
-    export: &Export<'_>,
     stopped: &mut Stopped,
-    input: &mut I,
-    buffers: &mut Buffers<I, J, R>,
-    asked: Asked<I>,
-) -> io::Result<Answer<I>>
-    ensures answered { IfOk result (λ answer. IsAnswered D.state D.honest J.name J.name.shape J.name.capacity export.now.nameable export.now.read_only asked stopped.new
-        buffers.new.tickets (session.new ≡ session.old) (Consumes (I.remaining input.old) (I.remaining input.new)) answer) }
-    ensures untouched { IfErr result (λ e. session.new ≡ session.old) }
-    ensures noted { AreNoted stopped.new buffers.new.tickets }
+    taken: Taken<I>,
+    room: &mut Vec<u8>,
+    tickets: &mut Tickets<J, R>,
+    leaving: &Leaving<Gone>,
+) -> (Answer<I>, Payload<I>)
+    ensures performed { IsPerformed D.state D.honest J.name J.name.shape.block_size J.name.capacity taken.request taken.bytes stopped.new tickets.new result.0 }
+    ensures noted { AreNoted stopped.new tickets.new }
     ensures kept { stopped.old ≤ stopped.new }
     ensures taken { stopped.old ≤ last_taken → stopped.new ≤ last_taken }
 {
-    buffers.tickets.clear();
-    let request = *asked.request();
-    let bytes = volume_bytes(session, export.nameable);
-    if let Some(error) = request.refusal(bytes, export.read_only) {
-        return refuse(input, asked, error);
-    }
-    let taken = buffers.payload.take(input, &request)?;
-    if taken {
-        let (payload, room) = (&buffers.payload, &mut buffers.read);
-        let tickets = &mut buffers.tickets;
-        let answer = perform(rt, alloc, session, stopped, asked, payload, room, tickets);
-        return Ok(answer);
-    }
-    refuse(input, asked, ENOMEM)
+    let Taken { asked, payload } = taken;
+    let answer = perform_with(
+        rt, alloc, session, stopped, asked, &payload, room, tickets, leaving,
+    );
+    (answer, payload)
 }
 
-/// The answer with this error to a request, whose bytes are skipped.
-fn refuse<I: Read>(input: &mut I, asked: Asked<I>, error: u32) -> io::Result<Answer<I>>
-    requires { error ≢ 0 }
-    ensures refused { IfOk result (λ answer. answer ≡ Now (simple_reply error asked.cookie)) }
-    ensures skipped { OnOk result ((bytes : List ℕ) × TakesPayload asked (Consumes (I.remaining input.old) (I.remaining input.new)) bytes) }
-{
-    Payload::skip(input, asked.request())?;
-    Ok(Answer::Now(Reply::refused(asked, error)))
-}
-
-/// Performs a request that the volume takes, with the bytes after it. The answer to a request that wants a commit is owed until all
-/// transactions of handles stopped by now are committed. A long read uses the memory of `room`.
-pub fn perform<J: JournalName, D: Device, R: Record, I, W: Wait>(
+/// As `perform`.
+fn perform_with<J: JournalName, D: Device, R: Record, I, W: Wait>(
     rt: &W,
     alloc: Global,
     session: &mut Session<'_, J, D, R>,
@@ -98,8 +53,8 @@ pub fn perform<J: JournalName, D: Device, R: Record, I, W: Wait>(
     payload: &Payload<I>,
     room: &mut Vec<u8>,
     tickets: &mut Tickets<J, R>,
+    leaving: &Leaving<Gone>,
 ) -> Answer<I>
-    requires none { tickets.old ≡ [] }
     requires long { asked.command ≡ 1 → length payload.now ≡ asked.length }
     ensures performed { IsPerformed D.state D.honest J.name J.name.shape.block_size J.name.capacity asked payload.now stopped.new tickets.new result }
     ensures noted { AreNoted stopped.new tickets.new }
@@ -108,24 +63,29 @@ pub fn perform<J: JournalName, D: Device, R: Record, I, W: Wait>(
 {
     let request = *asked.request();
     if request.command == READ {
+        tickets.clear();
         return match ReadReply::read(rt, alloc, session, asked, room) {
             Ok(reply) => Answer::Bytes(reply),
             Err((back, e)) => Answer::Now(Reply::refused(back, error_of(e))),
         };
     }
-    match change(rt, alloc, session, stopped, &request, payload, tickets) {
-        Ok(()) => {
-            if request.wants_commit() {
-                return Answer::Later(Due::of(rt, session, asked, payload, tickets, stopped));
-            }
-            Answer::Now(Reply::done(session, asked, payload, tickets))
-        }
-        Err(e) => Answer::Now(Reply::refused(asked, error_of(e))),
+    let early = match change(
+        rt, alloc, session, stopped, &request, payload, tickets, leaving,
+    ) {
+        Ok(early) => early,
+        Err(e) => return Answer::Now(Reply::refused(asked, error_of(e))),
+    };
+    if let Some(gone) = early {
+        return Answer::Now(Reply::given_up(asked, gone));
     }
+    if request.wants_commit() {
+        return Answer::Later(Due::of(rt, session, asked, payload, tickets, stopped));
+    }
+    Answer::Now(Reply::done(session, asked, payload, tickets))
 }
 
 /// Makes a change: writes the bytes after the request, writes zeros, or trims. A request without bytes, or of another kind, changes nothing.
-/// `tickets` has those of its handles afterwards, and no others.
+/// `tickets` has those of its handles afterwards, and no others. A trim or a write of zeros may end early, as `byte_volume` says.
 ///
 /// # Errors
 ///
@@ -138,9 +98,11 @@ pub fn change<J: JournalName, D: Device, R: Record, I, W: Wait>(
     request: &Request,
     payload: &Payload<I>,
     tickets: &mut Tickets<J, R>,
-) -> Result<(), JournalError>
+    leaving: &Leaving<Gone>,
+) -> Result<Option<Gone>, JournalError>
     requires long { request.now.command ≡ 1 → length payload.now ≡ request.now.length }
-    ensures done { OnOk result (IsDone D.state D.honest J.name J.name.shape.block_size J.name.capacity request.now payload.now tickets.new) }
+    ensures done { IfOk result (λ early. early ≡ None → IsDone D.state D.honest J.name J.name.shape.block_size J.name.capacity request.now payload.now tickets.new) }
+    ensures early { IfOk result (λ early. IfSome early (λ _. EndsEarly D.state D.honest J.name J.name.shape.block_size request.now tickets.new)) }
     ensures err { IfErr result (ChangeFails D.state D.honest J.name J.name.shape.block_size J.name.capacity request.now payload.now tickets.new) }
     ensures noted { AreNoted stopped.new tickets.new }
     ensures kept { stopped.old ≤ stopped.new }
@@ -149,20 +111,23 @@ pub fn change<J: JournalName, D: Device, R: Record, I, W: Wait>(
     let (offset, length) = (request.offset, request.length);
     if length == 0 {
         tickets.clear();
-        return Ok(());
+        return Ok(None);
     }
     if request.command == WRITE {
         let bytes = payload.bytes();
-        return write_range(rt, alloc, session, offset, bytes, stopped, tickets);
+        return match write_range(rt, alloc, session, offset, bytes, stopped, tickets) {
+            Ok(()) => Ok(None),
+            Err(e) => Err(e),
+        };
     }
     if request.command == WRITE_ZEROES {
         let count = length as usize;
-        return write_zeros(rt, alloc, session, offset, count, stopped, tickets);
+        return write_zeros(rt, alloc, session, offset, count, stopped, tickets, leaving);
     }
     if request.command == TRIM {
         let count = length as u64;
-        return trim_range(rt, session, offset, count, stopped, tickets);
+        return trim_range(rt, session, offset, count, stopped, tickets, leaving);
     }
     tickets.clear();
-    Ok(())
+    Ok(None)
 }

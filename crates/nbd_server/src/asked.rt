@@ -62,6 +62,18 @@ impl<I> Asked<I> {
     }
 }
 
+/// Shows that a client left without saying so: its input ended or failed. Only its connection makes one.
+#[derive(Clone, Copy, Debug, Drop)]
+pub struct Gone {
+    _left: (),
+}
+
+impl Gone {
+    pub(crate) fn new() -> Gone {
+        Gone { _left: () }
+    }
+}
+
 /// The bytes after a write, for the memory to be used again. Only the next bytes of an input of type I fill it.
 #[derive(Drop)]
 pub struct Payload<I> {

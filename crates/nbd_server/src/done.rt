@@ -1,10 +1,11 @@
 //! How a connection went.
 use journal_model::Tid;
+use std::alloc::Global;
 use std::{io, mem};
 
 /// A success answer to a flush, or to a change with `FUA`.
 #[derive(Clone, Copy, Debug)]
-pub struct Committed {
+pub struct Confirmed {
     /// The request's cookie.
     pub cookie: u64,
     /// All transactions up to this one were committed at the answer. It covers all handles that had stopped when the request came.
@@ -19,13 +20,23 @@ pub struct Done {
     /// The greatest transaction of a handle that the connection stopped, or 0.
     pub upto: Tid,
     /// The first answers that confirmed a commit, in order, as many as were to be kept.
-    pub committed: Vec<Committed>,
+    pub committed: Vec<Confirmed>,
     /// An error if the client could not be read or written, ended within a message, or sent no NBD.
     pub end: io::Result<()>,
 }
 
 impl Done {
-    /// Adds the other task's part.
+    /// The part of a task that reads no requests and records no answers.
+    pub(crate) fn of_task(alloc: Global, upto: Tid, end: io::Result<()>) -> Done {
+        Done {
+            requests: 0,
+            upto,
+            committed: Vec::new(alloc),
+            end,
+        }
+    }
+
+    /// Adds another task's part.
     pub(crate) fn add(&mut self, other: &mut Done) {
         self.requests = self.requests.max(other.requests);
         if self.upto.0 < other.upto.0 {

@@ -2,10 +2,10 @@
 ghost use Rattle.std.specs.Prelude.{◌≡◌, ◌++◌, [], ◌∷◌, OnOk};
 ghost use Rattle.nbd_server.specs.Answers.{Releases};
 
-use crate::done::{Committed, Done};
+use crate::done::{Confirmed, Done};
 use crate::replies::{Answer, Due, Outlet, Reply};
 use block_device::Device;
-use byte_volume::Committed as Receipt;
+use byte_volume::Committed;
 use crossbeam_channel::Receiver;
 use journal_model::Tid;
 use shared_journal::{JournalName, Record};
@@ -49,7 +49,7 @@ impl<I: Drop, O: Write + Drop> Flusher<'_, I, O> {
         &mut self,
         rt: &W,
         session: &mut Session<'_, J, D, R>,
-        committed: &mut Vec<Committed>,
+        committed: &mut Vec<Confirmed>,
     ) -> io::Result<()> {
         let mut reached = Tid(0);
         for _ in rt.forever() {
@@ -69,7 +69,7 @@ impl<I: Drop, O: Write + Drop> Flusher<'_, I, O> {
                 self.outlet.send(rt)?;
             }
             if is_committed && committed.len() < self.keep {
-                register(committed, Committed { cookie, upto })?;
+                register(committed, Confirmed { cookie, upto })?;
             }
         }
         Ok(())
@@ -77,7 +77,7 @@ impl<I: Drop, O: Write + Drop> Flusher<'_, I, O> {
 }
 
 /// Adds this answer to the recorded ones.
-fn register(committed: &mut Vec<Committed>, answer: Committed) -> io::Result<()>
+fn register(committed: &mut Vec<Confirmed>, answer: Confirmed) -> io::Result<()>
     ensures { OnOk result (committed.new.items ≡ committed.old.items ++ answer ∷ []) }
 {
     match committed.push(answer) {
@@ -94,7 +94,7 @@ pub fn release<J: JournalName, D: Device, R: Record, I, W: Wait>(
 ) -> (Reply<I>, bool)
     ensures { Releases D due session.new.seat.seen result.0 result.1 }
 {
-    match Receipt::wait_for(rt, session, due.upto()) {
+    match Committed::wait_for(rt, session, due.upto()) {
         Ok(receipt) => (Reply::committed(due, &receipt), true),
         Err(e) => (Reply::not_committed(due, e), false),
     }

@@ -27,7 +27,7 @@ const ZEROED_BYTES: usize = EXPORT_BYTES + 124;
 
 /// What follows an option.
 #[derive(Clone, Copy, Debug, PartialEq, Eq)]
-enum Next {
+enum AfterOption {
     Option,
     Request,
     End,
@@ -120,8 +120,8 @@ fn answer_options<I: Read, O: Write, W: Wait>(
         };
         let next = answer_option(out, volume, zeroed, &told)?;
         out.flush()?;
-        if next != Next::Option {
-            return Ok(next == Next::Request);
+        if next != AfterOption::Option {
+            return Ok(next == AfterOption::Request);
         }
     }
     unreachable!()
@@ -129,7 +129,7 @@ fn answer_options<I: Read, O: Write, W: Wait>(
 
 /// An option that a client told.
 #[derive(Drop)]
-struct Told {
+struct ReadOption {
     option: u32,
     /// `None` if they are too long.
     data: Option<Vec<u8>>,
@@ -140,7 +140,7 @@ struct Told {
 /// # Errors
 ///
 /// The client could not be read, or ended within it. `InvalidData`: these bytes are no option.
-fn read_option<I: Read>(alloc: Global, input: &mut I) -> io::Result<Option<Told>>
+fn read_option<I: Read>(alloc: Global, input: &mut I) -> io::Result<Option<ReadOption>>
     ensures { IfOk result (λ next. IfSome next (λ told. TakesOption (Consumes (I.remaining input.old) (I.remaining input.new)) told.option (λ bs. IfSome told.data (λ kept. kept.items ≡ bs)))) }
 {
     let mut bytes = [0; OPTION_BYTES];
@@ -151,7 +151,7 @@ fn read_option<I: Read>(alloc: Global, input: &mut I) -> io::Result<Option<Told>
     match OptionHeader::read(&bytes) {
         Some(header) => {
             let data = read_data(alloc, input, &header)?;
-            Ok(Some(Told {
+            Ok(Some(ReadOption {
                 option: header.option,
                 data,
             }))
@@ -182,8 +182,8 @@ fn answer_option<O: Write>(
     out: &mut O,
     volume: &Volume<'_>,
     zeroed: bool,
-    told: &Told,
-) -> io::Result<Next> {
+    told: &ReadOption,
+) -> io::Result<AfterOption> {
     let Some(data) = &told.data else {
         return too_long(out, told.option);
     };
@@ -193,22 +193,22 @@ fn answer_option<O: Write>(
         LIST => list(out, volume, data),
         ABORT => {
             say(out, ABORT, ACK)?;
-            Ok(Next::End)
+            Ok(AfterOption::End)
         }
         _ => {
             say(out, told.option, UNSUPPORTED)?;
-            Ok(Next::Option)
+            Ok(AfterOption::Option)
         }
     }
 }
 
 /// Answers an option with too long data; `EXPORT_NAME`, which has no reply, ends the connection.
-fn too_long<O: Write>(out: &mut O, option: u32) -> io::Result<Next> {
+fn too_long<O: Write>(out: &mut O, option: u32) -> io::Result<AfterOption> {
     if option == EXPORT_NAME {
-        return Ok(Next::End);
+        return Ok(AfterOption::End);
     }
     say(out, option, TOO_BIG)?;
-    Ok(Next::Option)
+    Ok(AfterOption::Option)
 }
 
 /// Answers an option without data.
@@ -224,9 +224,9 @@ fn enter<O: Write>(
     volume: &Volume<'_>,
     zeroed: bool,
     name: &[u8],
-) -> io::Result<Next> {
+) -> io::Result<AfterOption> {
     if !volume.is_named(name) {
-        return Ok(Next::End);
+        return Ok(AfterOption::End);
     }
     let mut bytes = [0; ZEROED_BYTES];
     write_export(
@@ -236,13 +236,13 @@ fn enter<O: Write>(
     );
     let wanted = if zeroed { ZEROED_BYTES } else { EXPORT_BYTES };
     out.write_all(&bytes[..wanted])?;
-    Ok(Next::Request)
+    Ok(AfterOption::Request)
 }
 
-fn list<O: Write>(out: &mut O, volume: &Volume<'_>, told: &[u8]) -> io::Result<Next> {
+fn list<O: Write>(out: &mut O, volume: &Volume<'_>, told: &[u8]) -> io::Result<AfterOption> {
     if !told.is_empty() {
         say(out, LIST, INVALID)?;
-        return Ok(Next::Option);
+        return Ok(AfterOption::Option);
     }
     let name = volume.export.name.as_bytes();
     let length = name.len().min(u16::MAX as usize) as u32;
@@ -251,18 +251,23 @@ fn list<O: Write>(out: &mut O, volume: &Volume<'_>, told: &[u8]) -> io::Result<N
     out.write_all(&bytes)?;
     out.write_all(&name[..length as usize])?;
     say(out, LIST, ACK)?;
-    Ok(Next::Option)
+    Ok(AfterOption::Option)
 }
 
 /// Tells the wanted facts of the export, and enters it for `GO`.
-fn tell<O: Write>(out: &mut O, volume: &Volume<'_>, option: u32, told: &[u8]) -> io::Result<Next> {
+fn tell<O: Write>(
+    out: &mut O,
+    volume: &Volume<'_>,
+    option: u32,
+    told: &[u8],
+) -> io::Result<AfterOption> {
     let Some(question) = Question::read(told) else {
         say(out, option, INVALID)?;
-        return Ok(Next::Option);
+        return Ok(AfterOption::Option);
     };
     if !volume.is_named(question.name) {
         say(out, option, UNKNOWN)?;
-        return Ok(Next::Option);
+        return Ok(AfterOption::Option);
     }
     tell_export(out, volume, option)?;
     for k in 0..question.wanted.len() / 2 {
@@ -275,9 +280,9 @@ fn tell<O: Write>(out: &mut O, volume: &Volume<'_>, option: u32, told: &[u8]) ->
     }
     say(out, option, ACK)?;
     Ok(if option == GO {
-        Next::Request
+        AfterOption::Request
     } else {
-        Next::Option
+        AfterOption::Option
     })
 }
 

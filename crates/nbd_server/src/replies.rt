@@ -7,13 +7,13 @@ ghost use Rattle.nbd_server.specs.Answers.{AnswersRead, IsDone, IsOwedTo};
 ghost use Rattle.nbd_server.specs.Causes.{ReadFails, error_number};
 ghost use Rattle.nbd_server.specs.declared.replies.Answer.TheVariants.{Later};
 
-use crate::asked::{Asked, Payload};
+use crate::asked::{Asked, Gone, Payload};
 use crate::export::Volume;
 use crate::handshake::shake_hands;
 use block_device::Device;
-use byte_volume::{Committed, Stopped, Tickets, read_range};
+use byte_volume::{Committed, Leaving, Stopped, Tickets, read_range};
 use journal_model::{JournalError, Tid};
-use nbd_protocol::numbers::{EINVAL, EIO, ENOMEM};
+use nbd_protocol::numbers::{EINVAL, EIO, ENOMEM, ESHUTDOWN};
 use nbd_protocol::{REPLY_BYTES, Request, write_reply};
 use shared_journal::{JournalName, Record};
 use std::alloc::{AllocError, Global};
@@ -117,6 +117,13 @@ impl<I> Reply<I> {
         ensures { result ≡ simple_reply error asked.cookie }
     {
         Reply::new(error, asked.request().cookie)
+    }
+
+    /// The error of a change that ended early, since its client has left.
+    pub fn given_up(asked: Asked<I>, _gone: Gone) -> Reply<I>
+        ensures { result ≡ simple_reply 108 asked.cookie }
+    {
+        Reply::new(ESHUTDOWN, asked.request().cookie)
     }
 
     /// Success of a request that was done, by the handles of these tickets, and wants no commit.
@@ -254,20 +261,10 @@ impl<I> ReadReply<I> {
 pub enum Answer<I> {
     /// Given at once, without bytes after it.
     Now(Reply<I>),
-    /// A read's bytes; many of them are sent by another task.
+    /// A read's bytes.
     Bytes(ReadReply<I>),
     /// Given once a commit is done.
     Later(Due<I>),
-}
-
-impl<I> Answer<I> {
-    /// Whether it has so many bytes that another task is to send it.
-    pub(crate) fn is_long(&self) -> bool {
-        match self {
-            Answer::Bytes(reply) => reply.is_long(),
-            _ => false,
-        }
-    }
 }
 
 /// The one output of answers to requests of an input of type I. An answer is written whole: no other thread's bytes come between. If the
@@ -277,6 +274,8 @@ pub struct Output<I: Drop, O: Write + Drop> {
     out: Mutex<O>,
     /// The last long answer that was given: the next takes its memory.
     given: Mutex<Option<ReadReply<I>>>,
+    /// Whether the client has left.
+    pub(crate) leaving: Leaving<Gone>,
 }
 
 impl<I: Drop, O: Write + Drop> Output<I, O> {
@@ -284,11 +283,16 @@ impl<I: Drop, O: Write + Drop> Output<I, O> {
         Output {
             out: Mutex::new(out),
             given: Mutex::new(None),
+            leaving: Leaving::new(),
         }
     }
 
     pub fn into_inner(self) -> O {
-        let Output { out, given: _ } = self;
+        let Output {
+            out,
+            given: _,
+            leaving: _,
+        } = self;
         out.into_inner()
     }
 

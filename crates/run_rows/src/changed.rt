@@ -10,7 +10,7 @@ use journal_script::{Operation, Script};
 use log_rows::RowError;
 use log_rows::words::{cut, hex_bytes, number};
 use recovery::open;
-use script_run::{Fault, RunDevice, Stopped, empty_disk, judge, run_device};
+use script_run::{Fault, RunDevice, StoppedRun, empty_disk, judge, run_device};
 use std::alloc::{AllocError, Global};
 use std::fmt::Write;
 
@@ -68,7 +68,7 @@ fn run_over<J: Runner>(
     device: RunDevice,
     operations: &[Operation],
     out: &mut Vec<u8>,
-) -> Result<Stopped, Fault> {
+) -> Result<StoppedRun, Fault> {
     match open(alloc, device) {
         Ok(opened) => journal.run_operations_over(alloc, opened, operations, out),
         Err((_, e)) => Err(Fault::Refused(e)),
@@ -85,16 +85,16 @@ fn changed_disk(alloc: Global, script: &Script, lines: &str) -> Result<MemDevice
 fn judge_changed(
     alloc: Global,
     script: &Script,
-    stopped: Stopped,
+    stopped: StoppedRun,
     lines: &str,
     out: &mut Vec<u8>,
 ) -> Result<Answer, RowError> {
-    let Stopped {
+    let StoppedRun {
         device,
         recorded,
         at_write,
     } = stopped;
-    let changed = Stopped {
+    let changed = StoppedRun {
         device: with_bytes(alloc, device.crash(&[]), lines)?,
         recorded,
         at_write,

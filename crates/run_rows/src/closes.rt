@@ -1,12 +1,12 @@
 //! Rows of closes of a journal.
-use crate::closing::{Closed, Fault, close_after};
-use crate::endings::{Ending, endings_text, in_one_line, kept, note};
+use crate::closing::{Closed, ClosingFault, close_after};
+use crate::endings::{RunEnding, endings_text, in_one_line, kept, note};
 use crate::texts::{numbers_in, written};
 use journal_model::{Sealed, Tid};
 use log_rows::RowError;
 use log_rows::words::{cut, number};
 use recovery::open;
-use script_run::{Record, Stopped, judge};
+use script_run::{RunRecord, StoppedRun, judge};
 use std::alloc::Global;
 use std::fmt::Write;
 
@@ -46,9 +46,9 @@ pub fn interrupted_closes(alloc: Global, given: &str) -> Result<String, RowError
     let mut endings = Vec::new(alloc);
     for k in first..=last {
         let fault = if fails {
-            Fault::Fail(k)
+            ClosingFault::Fail(k)
         } else {
-            Fault::Stop(k)
+            ClosingFault::Stop(k)
         };
         add_closes(alloc, fault, steps, k, back, &mut endings)?;
     }
@@ -59,11 +59,11 @@ pub fn interrupted_closes(alloc: Global, given: &str) -> Result<String, RowError
 /// Adds the endings of closes with this fault, for each choice of the last `back` writes.
 fn add_closes(
     alloc: Global,
-    fault: Fault,
+    fault: ClosingFault,
     steps: &str,
     k: u64,
     back: u64,
-    endings: &mut Vec<Ending>,
+    endings: &mut Vec<RunEnding>,
 ) -> Result<(), RowError> {
     if back > 8 {
         return Err(RowError::Unread);
@@ -94,12 +94,12 @@ fn ending_of(alloc: Global, closed: Closed, kept: &[u64]) -> Result<String, RowE
     Ok(told)
 }
 
-fn fault_of(step: &str) -> Result<Fault, RowError> {
+fn fault_of(step: &str) -> Result<ClosingFault, RowError> {
     if let Some(k) = step.strip_prefix("fail ") {
-        return Ok(Fault::Fail(number(k)?));
+        return Ok(ClosingFault::Fail(number(k)?));
     }
     match step.strip_prefix("stop ") {
-        Some(k) => Ok(Fault::Stop(number(k)?)),
+        Some(k) => Ok(ClosingFault::Stop(number(k)?)),
         None => Err(RowError::Unread),
     }
 }
@@ -122,9 +122,9 @@ fn judged(alloc: Global, closed: Closed, kept: &[u64]) -> Result<(String, bool),
         named,
     } = closed;
     let acknowledged = last_committed(&sealed, committed);
-    let stopped = Stopped {
+    let stopped = StoppedRun {
         device,
-        recorded: Record {
+        recorded: RunRecord {
             sealed,
             acknowledged,
         },

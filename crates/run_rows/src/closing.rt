@@ -13,7 +13,7 @@ use std::alloc::{AllocError, Global};
 
 /// A fault of a journal's device.
 #[derive(Clone, Copy)]
-pub enum Fault {
+pub enum ClosingFault {
     /// Stops at this write of the journal; 0 is none.
     Stop(u64),
     /// Fails this call for the journal; 0 is none.
@@ -47,7 +47,7 @@ struct User {
 /// # Errors
 ///
 /// `Unread`: a step is malformed or cannot be made. `Memory`.
-pub fn close_after(alloc: Global, fault: Fault, steps: &str) -> Result<Closed, RowError> {
+pub fn close_after(alloc: Global, fault: ClosingFault, steps: &str) -> Result<Closed, RowError> {
     let mut user = User {
         journal: new_journal(alloc, fault)?,
         named: NamedBlocks::none(alloc),
@@ -83,12 +83,12 @@ fn close(alloc: Global, user: User) -> Result<Closed, RowError> {
 
 fn new_journal(
     alloc: Global,
-    fault: Fault,
+    fault: ClosingFault,
 ) -> Result<Journal<FaultyDevice, Vec<Sealed>>, RowError> {
     let (stop, fail) = match fault {
-        Fault::Stop(k) => (k, 0),
-        Fault::Fail(0) => (0, 0),
-        Fault::Fail(k) => (0, calls_of_opening(alloc)?.saturating_add(k)),
+        ClosingFault::Stop(k) => (k, 0),
+        ClosingFault::Fail(0) => (0, 0),
+        ClosingFault::Fail(k) => (0, calls_of_opening(alloc)?.saturating_add(k)),
     };
     Journal::new(alloc, opened(alloc, stop, fail)?)
         .ok()

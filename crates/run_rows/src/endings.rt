@@ -9,7 +9,7 @@ use std::fmt::Write;
 
 /// A row's interruptions and script.
 #[derive(Drop)]
-pub struct Given {
+pub struct InterruptedScript {
     pub script: Script,
     /// The first place of an interruption.
     pub first: u64,
@@ -24,13 +24,13 @@ pub struct Given {
 /// # Errors
 ///
 /// `Unread`: more than 8 last writes may be kept, or the text is no script. `Memory`.
-pub fn given_of(alloc: Global, given: &str) -> Result<Given, RowError> {
+pub fn given_of(alloc: Global, given: &str) -> Result<InterruptedScript, RowError> {
     let (line, text) = cut(given, "\n")?;
     let [first, last, back] = numbers_in::<3>(line)?;
     if back > 8 {
         return Err(RowError::Unread);
     }
-    Ok(Given {
+    Ok(InterruptedScript {
         script: given_script(alloc, text)?,
         first,
         last,
@@ -40,7 +40,7 @@ pub fn given_of(alloc: Global, given: &str) -> Result<Given, RowError> {
 
 /// One ending, and the interruptions that lead to it.
 #[derive(Drop)]
-pub struct Ending {
+pub struct RunEnding {
     /// The opening's report, the named blocks, and the verdict.
     text: String,
     /// Series of places after which runs end so, each by its first and last.
@@ -68,7 +68,7 @@ pub fn in_one_line(alloc: Global, lines: &str) -> Result<String, AllocError> {
 /// Notes that a run ends so after an interruption at this place, or without one.
 pub fn note(
     alloc: Global,
-    endings: &mut Vec<Ending>,
+    endings: &mut Vec<RunEnding>,
     text: String,
     place: Option<u64>,
 ) -> Result<(), AllocError> {
@@ -77,7 +77,7 @@ pub fn note(
             return add_to(ending, place);
         }
     }
-    let mut ending = Ending {
+    let mut ending = RunEnding {
         text,
         places: Vec::new(alloc),
         is_of_end: false,
@@ -86,7 +86,7 @@ pub fn note(
     Ok(endings.push(ending)?)
 }
 
-fn add_to(ending: &mut Ending, place: Option<u64>) -> Result<(), AllocError> {
+fn add_to(ending: &mut RunEnding, place: Option<u64>) -> Result<(), AllocError> {
     match place {
         Some(k) => add_number(&mut ending.places, k),
         None => {
@@ -107,7 +107,11 @@ fn add_number(series: &mut Vec<(u64, u64)>, k: u64) -> Result<(), AllocError> {
 }
 
 /// The lines of all endings; this word names the places.
-pub fn endings_text(alloc: Global, endings: &[Ending], places: &str) -> Result<String, AllocError> {
+pub fn endings_text(
+    alloc: Global,
+    endings: &[RunEnding],
+    places: &str,
+) -> Result<String, AllocError> {
     let mut all = String::new(alloc);
     for ending in endings {
         write_ending(&mut all, ending, places)?;
@@ -115,7 +119,7 @@ pub fn endings_text(alloc: Global, endings: &[Ending], places: &str) -> Result<S
     Ok(all)
 }
 
-fn write_ending(all: &mut String, ending: &Ending, places: &str) -> Result<(), AllocError> {
+fn write_ending(all: &mut String, ending: &RunEnding, places: &str) -> Result<(), AllocError> {
     write!(all, "{}: {places}", ending.text)?;
     for (first, last) in &ending.places {
         write!(all, " {first} to {last}")?;

@@ -1,5 +1,7 @@
 //! Rows of runs with a failed device call.
-use crate::endings::{Ending, Given, endings_text, given_of, in_one_line, kept, note};
+use crate::endings::{
+    InterruptedScript, RunEnding, endings_text, given_of, in_one_line, kept, note,
+};
 use crate::journals::Runner;
 use crate::texts::written;
 use journal_script::Script;
@@ -23,9 +25,9 @@ pub fn failures<J: Runner>(alloc: Global, journal: &J, given: &str) -> Result<St
 fn add_failure<J: Runner>(
     alloc: Global,
     journal: &J,
-    given: &Given,
+    given: &InterruptedScript,
     call: u64,
-    endings: &mut Vec<Ending>,
+    endings: &mut Vec<RunEnding>,
 ) -> Result<(), RowError> {
     let writes = writes_of(alloc, journal, &given.script, call)?;
     for bits in 0..given.choices {
@@ -53,7 +55,7 @@ fn add_run<J: Runner>(
     script: &Script,
     call: u64,
     kept: &[u64],
-    endings: &mut Vec<Ending>,
+    endings: &mut Vec<RunEnding>,
 ) -> Result<(), RowError> {
     let mut out = Vec::new(alloc);
     let stops = Stops {
@@ -79,7 +81,7 @@ fn add_lines(
     lines: &str,
     right: bool,
     call: u64,
-    endings: &mut Vec<Ending>,
+    endings: &mut Vec<RunEnding>,
 ) -> Result<(), RowError> {
     let (operations, behind) = cut(lines, "\nstopped ")?;
     let (_, ending) = cut(behind, " n=")?;

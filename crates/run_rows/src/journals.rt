@@ -2,7 +2,7 @@
 use block_device::Device;
 use journal_script::{Operation, Script};
 use recovery::Opened;
-use script_run::{AfterFailure, AnyHome, Fault, RunDevice, Stopped, Stops};
+use script_run::{AfterFailure, AnyHome, Fault, RunDevice, StoppedRun, Stops};
 use std::alloc::Global;
 use std::sync::Wait;
 
@@ -47,7 +47,7 @@ pub trait Runner {
         stop: Option<u64>,
         failing_call: Option<u64>,
         out: &mut Vec<u8>,
-    ) -> Result<Stopped, Fault>;
+    ) -> Result<StoppedRun, Fault>;
 
     /// Runs operations on an opened log.
     ///
@@ -60,14 +60,14 @@ pub trait Runner {
         opened: Opened<RunDevice>,
         operations: &[Operation],
         out: &mut Vec<u8>,
-    ) -> Result<Stopped, Fault>;
+    ) -> Result<StoppedRun, Fault>;
 }
 
 /// The journal of one thread.
 #[derive(Clone, Copy)]
-pub struct Alone;
+pub struct OneThreadRunner;
 
-impl Runner for Alone {
+impl Runner for OneThreadRunner {
     fn run(
         &self,
         alloc: Global,
@@ -96,7 +96,7 @@ impl Runner for Alone {
         stop: Option<u64>,
         failing_call: Option<u64>,
         out: &mut Vec<u8>,
-    ) -> Result<Stopped, Fault> {
+    ) -> Result<StoppedRun, Fault> {
         script_run::run_operations(alloc, script, stop, failing_call, out)
     }
 
@@ -106,7 +106,7 @@ impl Runner for Alone {
         opened: Opened<RunDevice>,
         operations: &[Operation],
         out: &mut Vec<u8>,
-    ) -> Result<Stopped, Fault> {
+    ) -> Result<StoppedRun, Fault> {
         script_run::run_operations_over::<AnyHome, _>(
             alloc,
             opened,
@@ -120,9 +120,9 @@ impl Runner for Alone {
 
 /// The journal that threads share.
 #[derive(Clone, Copy)]
-pub struct Shared<'a, R>(pub &'a R);
+pub struct SharedRunner<'a, R>(pub &'a R);
 
-impl<R: Wait> Runner for Shared<'_, R> {
+impl<R: Wait> Runner for SharedRunner<'_, R> {
     fn run(
         &self,
         alloc: Global,
@@ -151,7 +151,7 @@ impl<R: Wait> Runner for Shared<'_, R> {
         stop: Option<u64>,
         failing_call: Option<u64>,
         out: &mut Vec<u8>,
-    ) -> Result<Stopped, Fault> {
+    ) -> Result<StoppedRun, Fault> {
         shared_runs::run_operations(self.0, alloc, script, stop, failing_call, out)
     }
 
@@ -161,7 +161,7 @@ impl<R: Wait> Runner for Shared<'_, R> {
         opened: Opened<RunDevice>,
         operations: &[Operation],
         out: &mut Vec<u8>,
-    ) -> Result<Stopped, Fault> {
+    ) -> Result<StoppedRun, Fault> {
         shared_runs::run_operations_over(
             self.0,
             alloc,

@@ -1,5 +1,7 @@
 //! Rows of devices that are opened again after a failed call, without a crash.
-use crate::endings::{Ending, Given, endings_text, given_of, in_one_line, kept, note};
+use crate::endings::{
+    InterruptedScript, RunEnding, endings_text, given_of, in_one_line, kept, note,
+};
 use crate::journals::Runner;
 use crate::texts::{numbers_in, written};
 use block_device::{MemDevice, StopAt};
@@ -8,7 +10,7 @@ use journal_script::NamedBlocks;
 use log_rows::RowError;
 use log_rows::words::cut;
 use recovery::{Opened, Report, open};
-use script_run::{Fault, OpenedImage, Stopped, judge_opened, judge_reopened, open_image};
+use script_run::{Fault, OpenedImage, StoppedRun, judge_opened, judge_reopened, open_image};
 use std::alloc::Global;
 
 /// Opens the device of a run with a failed call as it is, without a crash: it reads all that was written. That opening stops at each write,
@@ -32,9 +34,9 @@ pub fn reopened_devices<J: Runner>(
 
 /// A run with a failed call.
 #[derive(Drop)]
-struct Failed {
+struct FailedRun {
     /// Its device has not crashed.
-    run: Stopped,
+    run: StoppedRun,
     /// The blocks that the script names.
     named: NamedBlocks,
     /// The report of an opening of the device.
@@ -44,9 +46,9 @@ struct Failed {
 fn failed_of<J: Runner>(
     alloc: Global,
     journal: &J,
-    given: &Given,
+    given: &InterruptedScript,
     call: u64,
-) -> Result<Failed, RowError> {
+) -> Result<FailedRun, RowError> {
     let named = given.script.named_blocks(alloc)?;
     let Ok(run) = journal.run_operations(
         alloc,
@@ -61,16 +63,16 @@ fn failed_of<J: Runner>(
         return Err(RowError::Unread);
     };
     let first = opened.report();
-    Ok(Failed { run, named, first })
+    Ok(FailedRun { run, named, first })
 }
 
 /// Adds the endings of openings that stop at write `k`, for each choice of the last writes.
 fn add_stops(
     alloc: Global,
-    given: &Given,
-    failed: &Failed,
+    given: &InterruptedScript,
+    failed: &FailedRun,
     k: u64,
-    endings: &mut Vec<Ending>,
+    endings: &mut Vec<RunEnding>,
 ) -> Result<(), RowError> {
     let last = failed.run.device.writes().saturating_add(k);
     for bits in 0..given.choices {
@@ -82,10 +84,10 @@ fn add_stops(
 
 fn add_stop(
     alloc: Global,
-    failed: &Failed,
+    failed: &FailedRun,
     k: u64,
     kept: &[u64],
-    endings: &mut Vec<Ending>,
+    endings: &mut Vec<RunEnding>,
 ) -> Result<(), RowError> {
     let mut out = Vec::new(alloc);
     let device = StopAt::new(failed.run.device.try_clone()?, k);
@@ -100,7 +102,7 @@ fn add_stop(
 
 fn judge_whole(
     alloc: Global,
-    failed: &Failed,
+    failed: &FailedRun,
     opened: Opened<StopAt<MemDevice>>,
     out: &mut Vec<u8>,
 ) -> Result<bool, RowError> {
@@ -115,7 +117,7 @@ fn judge_whole(
 
 fn judge_left(
     alloc: Global,
-    failed: &Failed,
+    failed: &FailedRun,
     image: MemDevice,
     out: &mut Vec<u8>,
 ) -> Result<bool, RowError> {

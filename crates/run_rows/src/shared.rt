@@ -2,7 +2,7 @@
 use block_device::MemDevice;
 use journal_model::JournalError;
 use journal_script::Script;
-use script_run::{Attempt, Fault, OpenedImage, Stopped, open_image, open_to};
+use script_run::{Attempt, Fault, OpenedImage, StoppedRun, open_image, open_to};
 use script_sweep::Swept;
 use std::alloc::Global;
 use std::sync::Wait;
@@ -20,7 +20,7 @@ impl<R: Wait> Swept for SharedJournal<'_, R> {
         script: &Script,
         stop: Option<u64>,
         failing_call: Option<u64>,
-    ) -> Result<Stopped, Fault> {
+    ) -> Result<StoppedRun, Fault> {
         let mut out = Vec::new(alloc);
         shared_runs::run_operations(self.0, alloc, script, stop, failing_call, &mut out)
     }

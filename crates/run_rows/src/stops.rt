@@ -1,5 +1,7 @@
 //! Rows of runs, and of openings after runs, that stop at each write.
-use crate::endings::{Ending, Given, endings_text, given_of, in_one_line, kept, note};
+use crate::endings::{
+    InterruptedScript, RunEnding, endings_text, given_of, in_one_line, kept, note,
+};
 use crate::journals::Runner;
 use crate::texts::written;
 use journal_script::Script;
@@ -23,9 +25,9 @@ pub fn stops<J: Runner>(alloc: Global, journal: &J, given: &str) -> Result<Strin
 fn add_stop<J: Runner>(
     alloc: Global,
     journal: &J,
-    given: &Given,
+    given: &InterruptedScript,
     k: u64,
-    endings: &mut Vec<Ending>,
+    endings: &mut Vec<RunEnding>,
 ) -> Result<(), RowError> {
     for bits in 0..given.choices {
         let kept = kept(alloc, k, bits)?;
@@ -52,7 +54,7 @@ fn add_run<J: Runner>(
     script: &Script,
     k: u64,
     kept: &[u64],
-    endings: &mut Vec<Ending>,
+    endings: &mut Vec<RunEnding>,
 ) -> Result<(), RowError> {
     let mut out = Vec::new(alloc);
     let stops = Stops {
@@ -70,7 +72,7 @@ fn add_lines(
     alloc: Global,
     lines: &str,
     right: bool,
-    endings: &mut Vec<Ending>,
+    endings: &mut Vec<RunEnding>,
 ) -> Result<(), RowError> {
     let (_, behind) = cut(lines, "\nstopped ")?;
     let (stop, behind) = cut(behind, "\n")?;
@@ -98,9 +100,9 @@ pub fn stops_of_openings<J: Runner>(
 fn add_openings<J: Runner>(
     alloc: Global,
     journal: &J,
-    given: &Given,
+    given: &InterruptedScript,
     k: u64,
-    endings: &mut Vec<Ending>,
+    endings: &mut Vec<RunEnding>,
 ) -> Result<(), RowError> {
     for bits in 0..given.choices {
         let kept = kept(alloc, k, bits)?;
@@ -115,7 +117,7 @@ fn add_opening<J: Runner>(
     script: &Script,
     k: u64,
     kept: &[u64],
-    endings: &mut Vec<Ending>,
+    endings: &mut Vec<RunEnding>,
 ) -> Result<(), RowError> {
     let mut out = Vec::new(alloc);
     let stops = Stops {
@@ -135,7 +137,7 @@ fn add_opened(
     lines: &str,
     right: bool,
     k: u64,
-    endings: &mut Vec<Ending>,
+    endings: &mut Vec<RunEnding>,
 ) -> Result<(), RowError> {
     let (word, behind) = match lines.split_once("\nreopen ") {
         Some((_, behind)) => ("reopen", behind),

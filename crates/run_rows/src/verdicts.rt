@@ -8,7 +8,7 @@ use journal_model::{Area, Block, BlockNo, HandleNo, Items, Op, Sealed, Step, Tid
 use journal_script::NamedBlocks;
 use log_rows::RowError;
 use log_rows::words::{cut, hex_bytes, number, number32};
-use script_run::Record;
+use script_run::RunRecord;
 use std::alloc::{AllocError, Global};
 
 const SIZE: usize = 16;
@@ -16,8 +16,8 @@ const SIZE: usize = 16;
 const HOME: u64 = 8;
 
 #[derive(Drop)]
-struct Left {
-    record: Record,
+struct RecordedRun {
+    record: RunRecord,
     end: u64,
     device: MemDevice,
     named: NamedBlocks,
@@ -37,9 +37,9 @@ pub fn verdict(alloc: Global, given: &str) -> Result<String, RowError> {
     }
 }
 
-fn nothing_left(alloc: Global) -> Left {
-    Left {
-        record: Record {
+fn nothing_left(alloc: Global) -> RecordedRun {
+    RecordedRun {
+        record: RunRecord {
             sealed: Vec::new(alloc),
             acknowledged: None,
         },
@@ -49,7 +49,12 @@ fn nothing_left(alloc: Global) -> Left {
     }
 }
 
-fn add_part(alloc: Global, left: &mut Left, word: &str, behind: &str) -> Result<(), RowError> {
+fn add_part(
+    alloc: Global,
+    left: &mut RecordedRun,
+    word: &str,
+    behind: &str,
+) -> Result<(), RowError> {
     match word {
         "acknowledged" => left.record.acknowledged = Some(Tid(number32(behind)?)),
         "end" => left.end = number(behind)?,
@@ -65,7 +70,7 @@ fn add_part(alloc: Global, left: &mut Left, word: &str, behind: &str) -> Result<
     Ok(())
 }
 
-fn seal(record: &mut Record, transaction: Sealed) -> Result<(), AllocError> {
+fn seal(record: &mut RunRecord, transaction: Sealed) -> Result<(), AllocError> {
     Ok(record.sealed.push(transaction)?)
 }
 
@@ -85,7 +90,7 @@ fn transaction(alloc: Global, tid: u32, written: &str) -> Result<Sealed, RowErro
     })
 }
 
-fn write_home(alloc: Global, left: &mut Left, written: &str) -> Result<(), RowError> {
+fn write_home(alloc: Global, left: &mut RecordedRun, written: &str) -> Result<(), RowError> {
     let (block, bytes) = block_in(alloc, written)?;
     if block >= left.device.blocks(Area::Home) || left.device.block_size() != SIZE {
         return Err(RowError::Unread);

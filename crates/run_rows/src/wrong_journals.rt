@@ -7,8 +7,8 @@ use journal_model::{Area, JournalError};
 use journal_script::{Measures, Script};
 use recovery::{Opened, open};
 use script_client::{Performed, perform};
-use script_run::{AfterFailure, AnyHome, Record, empty_disk, run_device};
-use script_sweep::{Attempt, Fault, OpenedImage, Stopped, Swept, calls_of_run};
+use script_run::{AfterFailure, AnyHome, RunRecord, empty_disk, run_device};
+use script_sweep::{Attempt, Fault, OpenedImage, StoppedRun, Swept, calls_of_run};
 use std::alloc::Global;
 use std::io;
 
@@ -256,16 +256,16 @@ fn real_of(device: StopAt<Reordered>) -> MemDevice {
     }
 }
 
-fn stopped(performed: Performed<WrongDevice>) -> Stopped {
+fn stopped(performed: Performed<WrongDevice>) -> StoppedRun {
     let Performed {
         device,
         sealed,
         acknowledged,
         open_wait: _,
     } = performed;
-    Stopped {
+    StoppedRun {
         device: real_of(device.into_inner()),
-        recorded: Record {
+        recorded: RunRecord {
             sealed,
             acknowledged,
         },
@@ -282,7 +282,7 @@ impl Swept for WrongJournal {
         script: &Script,
         stop: Option<u64>,
         failing_call: Option<u64>,
-    ) -> Result<Stopped, Fault> {
+    ) -> Result<StoppedRun, Fault> {
         let opened = self.opened(alloc, script, stop, failing_call)?;
         let after = if failing_call.is_some() {
             AfterFailure::GoOn

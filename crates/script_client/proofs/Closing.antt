@@ -1,10 +1,11 @@
 -- Lemmas: what is left of a journal at its end.
-use Rattle.std.proofs.Common.{inl, sym, subst, ◌∙◌}
+use Rattle.std.proofs.Common.{ap, inl, inr, sym, subst, ◌∙◌}
 use Rattle.std.specs.Prelude.{◌≡◌, ℕ, ◌++◌, List, Option, None}
 use Rattle.journal_model.specs.declared.refusal.JournalError.{JournalError}
 use Rattle.journal_model.specs.Disk.{Disk, Image, Leaves, Shape}
-use Rattle.journal_model.specs.Transaction.{History}
+use Rattle.journal_model.specs.Transaction.{History, Transaction}
 use Rattle.block_device.specs.State.{DeviceState}
+use Rattle.journal_world.specs.Front.{Front}
 use Rattle.journal_world.specs.Journal.{Journal}
 use Rattle.log_epochs.specs.EngineWorld.{Phase}
 use Rattle.log_epochs.specs.EngineWorld.Phase.{Closed, Running, Shut}
@@ -12,7 +13,7 @@ use Rattle.log_epochs.specs.JournalPromise.{IsClosed}
 use Rattle.log_epochs.specs.JournalWorld.{JournalWorld, Leads}
 use Rattle.log_epochs.proofs.Leading.{leads-after}
 use Rattle.journal_steps.specs.Values.{JournalValue}
-use Rattle.group_commit.specs.Close.{CloseDid, CloseRefused, EndsWith, IsSealedInClose}
+use Rattle.group_commit.specs.Close.{CloseDid, CloseRefused, EndsWith, IsSealedInClose, closing, with_running}
 use Rattle.group_commit.specs.Close.CloseDid.{ClosesLog, StaysClean}
 use Rattle.group_commit.specs.Close.CloseRefused.{CloseAborted, CloseFailed, NoMemory, NotReady}
 use Rattle.journal_script.specs.declared.script.Operation.{Operation}
@@ -126,3 +127,12 @@ ended-weaker F G operations state sealed shown less to = record {
   greatest = to.greatest;
   sealed_is = to.sealed_is;
 }
+
+-- stopping handles changes nothing of what a close seals
+pub closing-same : (old stopped : Front) → stopped.sealed ≡ old.sealed → stopped.running ≡ old.running → closing stopped ≡ closing old
+closing-same old stopped sealed running =
+    ap (λ (ts : History). with_running ts stopped.running stopped.running.handles) sealed ∙ ap (λ (t : Transaction). with_running old.sealed t t.handles) running
+
+pub sealed-same : (old stopped : Front) (ts : History) → stopped.sealed ≡ old.sealed → stopped.running ≡ old.running → IsSealedInClose stopped ts → IsSealedInClose old ts
+sealed-same old stopped ts sealed running (inl is) = inl (is ∙ sealed)
+sealed-same old stopped ts sealed running (inr is) = inr (is ∙ closing-same old stopped sealed running)

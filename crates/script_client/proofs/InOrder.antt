@@ -10,8 +10,8 @@ use Rattle.journal_model.specs.declared.refusal.JournalError.{JournalError}
 use Rattle.group_commit.specs.Extension.{EndsHandle}
 use Rattle.journal_front.specs.Values.{HandleValue}
 use Rattle.journal_steps.specs.Values.{JournalValue}
-use Rattle.script_client.specs.declared.outcome.Outcome.{Outcome}
-use Rattle.script_client.specs.declared.outcome.Outcome.TheVariants.{Refused}
+use Rattle.script_client.specs.declared.outcome.OperationOutcome.{OperationOutcome}
+use Rattle.script_client.specs.declared.outcome.OperationOutcome.TheVariants.{Refused}
 use Rattle.journal_script.specs.declared.script.Operation.{Operation}
 use Rattle.script_client.specs.Lines.{line_of}
 use Rattle.script_client.specs.Outcomes.{AppliesAll, AppliesSome, AppliesUpTo, Performs, PerformsAll, Writes}
@@ -20,14 +20,14 @@ use Rattle.script_client.specs.Performed.{Table}
 use Rattle.script_client.proofs.Telling.{open-or_not}
 
 -- the operations were performed, the list goes on after each, and the lines were written
-pub record PerformsSoFar {D : Type 0} (Does : Operation → Outcome → Table D → Table D → Type 0) (Last : Outcome → Type 0) (operations : List Operation) (old new : Table D)
+pub record PerformsSoFar {D : Type 0} (Does : Operation → OperationOutcome → Table D → Table D → Type 0) (Last : OperationOutcome → Type 0) (operations : List Operation) (old new : Table D)
     (before written : Option (List ℕ)) : Type 0 where
-  pub outcomes : List Outcome
+  pub outcomes : List OperationOutcome
   pub performs : Writes before written (λ lines. Performs Does Last operations outcomes lines old new)
   pub go : AllByRecursion (λ o. Last o → ⊥) outcomes
 
 -- the list goes on after one more outcome
-pub goes-on : (Last : Outcome → Type 0) (outcomes : List Outcome) (one : Outcome) → AllByRecursion (λ o. Last o → ⊥) outcomes → (Last one → ⊥)
+pub goes-on : (Last : OperationOutcome → Type 0) (outcomes : List OperationOutcome) (one : OperationOutcome) → AllByRecursion (λ o. Last o → ⊥) outcomes → (Last one → ⊥)
     → AllByRecursion (λ o. Last o → ⊥) (outcomes ++ one ∷ [])
 goes-on Last [] one all on = (on, tt)
 goes-on Last (x ∷ outcomes) one all on = (all.0, goes-on Last outcomes one all.1 on)
@@ -44,12 +44,12 @@ appends-none : (written : Option (List ℕ)) → Appends written written []
 appends-none None = tt
 appends-none (Some xs) = sym (append-nil xs)
 
-module _ {D : Type 0} (Does : Operation → Outcome → Table D → Table D → Type 0) (Last : Outcome → Type 0) (operations : List Operation) where
+module _ {D : Type 0} (Does : Operation → OperationOutcome → Table D → Table D → Type 0) (Last : OperationOutcome → Type 0) (operations : List Operation) where
   -- no operation was performed yet
   pub none-performed : (t : Table D) (written : Option (List ℕ)) → PerformsSoFar Does Last [] t t written written
   none-performed t written = record { outcomes = []; performs = record { lines = []; said = appends-none written; are = NoneYet t }; go = tt }
 
-  module _ (i : ℕ) (one : Operation) (outcome : Outcome) (old now new : Table D) (before mid written : Option (List ℕ)) (within : i < length operations) (is : one ≡ get_or operations i one)
+  module _ (i : ℕ) (one : Operation) (outcome : OperationOutcome) (old now new : Table D) (before mid written : Option (List ℕ)) (within : i < length operations) (is : one ≡ get_or operations i one)
       (so_far : PerformsSoFar Does Last (take i operations) old now before mid) (done : Does one outcome now new) where
     -- one more operation was performed
     performs-more : Performs Does Last (take (i + 1) operations) (so_far.outcomes ++ outcome ∷ []) (so_far.performs.lines ++ line_of one outcome) old new
@@ -96,7 +96,7 @@ module _ {D : Type 0} (Does : Operation → Outcome → Table D → Table D → 
       count = i + 1;
       outcomes = so_far.outcomes;
       performs =
-          subst (λ (o : Outcome). Writes before written (λ lines. Performs Does Last (take (i + 1) operations) (so_far.outcomes ++ o ∷ []) lines old new))
+          subst (λ (o : OperationOutcome). Writes before written (λ lines. Performs Does Last (take (i + 1) operations) (so_far.outcomes ++ o ∷ []) lines old new))
           refused (writes-more line);
       last = last;
     }

@@ -7,7 +7,7 @@ use Rattle.block_device.specs.State.{DeviceState}
 use Rattle.journal_front.specs.Values.{HandleValue}
 use Rattle.group_commit.specs.Values.{TicketValue}
 use Rattle.journal_script.specs.declared.script.Operation.{Operation}
-use Rattle.script_client.specs.declared.outcome.Outcome.{Outcome}
+use Rattle.script_client.specs.declared.outcome.OperationOutcome.{OperationOutcome}
 use Rattle.script_client.specs.declared.slots.Slot.{Slot}
 use Rattle.script_client.specs.declared.slots.Slot.TheVariants.{Empty, Open, Stopped, Waited}
 use Rattle.script_client.specs.Names.{MayStand, stands_for}
@@ -52,7 +52,7 @@ pub may-return : (old taken : List Slot) (name : ℕ) (slot : Slot) → slot ≡
 may-return old taken name slot is takes =
     may-stand old taken name slot slot is takes (λ h this none. let both : Empty ≡ Open h = sym none ∙ this in cc)
 
-module _ {D : Type 0} (state : D → DeviceState) (honest : D → Type 0) (outcome : Outcome) (old new : Table D) (skips : Skips outcome old new) where
+module _ {D : Type 0} (state : D → DeviceState) (honest : D → Type 0) (outcome : OperationOutcome) (old new : Table D) (skips : Skips outcome old new) where
   -- no handle is open there: the operation is skipped
   pub else-touched : (operation : Operation) (name : ℕ) (slot : Slot) → ((h : HandleValue) → slot ≡ Open h → ⊥) → HasTouched state honest operation name slot outcome old new
   else-touched operation name Empty not = skips

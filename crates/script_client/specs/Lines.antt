@@ -11,8 +11,8 @@ use Rattle.journal_steps.specs.declared.turn.CheckTurn.TheVariants.{Idle as Idle
 use Rattle.journal_steps.specs.declared.turn.Turn.{Turn as CommitTurn}
 use Rattle.journal_steps.specs.declared.turn.Turn.TheVariants.{Idle, Waiting, Step, Sealed, Committed as Commits}
 use Rattle.log_model.specs.Dump.{newline}
-use Rattle.script_client.specs.declared.outcome.Outcome.{Outcome}
-use Rattle.script_client.specs.declared.outcome.Outcome.TheVariants.{Begins, CheckTurn, Committed, Done, Open, Refused, Skipped, Transaction, Turn}
+use Rattle.script_client.specs.declared.outcome.OperationOutcome.{OperationOutcome}
+use Rattle.script_client.specs.declared.outcome.OperationOutcome.TheVariants.{Begins, CheckTurn, Committed, Done, Open, Refused, Skipped, Transaction, Turn}
 
 -- a byte as two hex digits, and bytes as hex digits
 abbrev pub hex_digits : ℕ → List ℕ
@@ -43,7 +43,7 @@ abbrev pub refused_text : JournalError → List ℕ
 refused_text e = codes "refused " ++ decimal (number_of e) ++ codes " " ++ refusal_text e
 
 -- an outcome
-abbrev pub outcome_text : Outcome → List ℕ
+abbrev pub outcome_text : OperationOutcome → List ℕ
 outcome_text (Transaction tid) = decimal tid
 outcome_text Done = codes "ok"
 outcome_text (Begins bytes) = hex_text bytes
@@ -54,5 +54,5 @@ outcome_text Open = codes "open"
 outcome_text Skipped = codes "skipped"
 outcome_text (Refused e) = refused_text e
 
-abbrev pub line_of : Operation → Outcome → List ℕ
+abbrev pub line_of : Operation → OperationOutcome → List ℕ
 line_of operation outcome = operation_text operation ++ codes " = " ++ outcome_text outcome ++ newline ∷ []

@@ -12,8 +12,8 @@ use Rattle.recovery.specs.Values.{OpenedValue}
 use Rattle.journal_script.specs.declared.script.Operation.{Operation}
 use Rattle.script_client.specs.declared.fault.Fault.{Fault}
 use Rattle.script_client.specs.declared.fault.Fault.TheVariants.{Output, Refused as RefusedAll}
-use Rattle.script_client.specs.declared.outcome.Outcome.{Outcome}
-use Rattle.script_client.specs.declared.outcome.Outcome.TheVariants.{Refused}
+use Rattle.script_client.specs.declared.outcome.OperationOutcome.{OperationOutcome}
+use Rattle.script_client.specs.declared.outcome.OperationOutcome.TheVariants.{Refused}
 use Rattle.script_client.specs.declared.performing.AfterFailure.{AfterFailure}
 use Rattle.script_client.specs.declared.performing.AfterFailure.TheVariants.{End}
 use Rattle.script_client.specs.declared.performing.AfterRefusal.{AfterRefusal}
@@ -26,31 +26,31 @@ use Rattle.script_client.specs.Shown.{IsLeftOf}
 use Rattle.script_client.specs.Told.{ClientValue}
 
 -- `perform` stops after this outcome
-abbrev pub IsLast : AfterFailure → Outcome → Type 0
+abbrev pub IsLast : AfterFailure → OperationOutcome → Type 0
 IsLast after outcome = (after ≡ End) × (outcome ≡ Refused Device)
 
 -- `apply` stops after a refusal for this cause, and after this outcome
 abbrev pub EndsApply : AfterRefusal → JournalError → Type 0
 EndsApply after e = (after.goes_on ≡ false) ⊎ (e ≡ Device)
 
-abbrev pub IsLastApplied : AfterRefusal → Outcome → Type 0
+abbrev pub IsLastApplied : AfterRefusal → OperationOutcome → Type 0
 IsLastApplied after outcome = (e : JournalError) × (outcome ≡ Refused e) × EndsApply after e
 
 -- the operations were performed in order, each so, with these outcomes and lines; only the last outcome may satisfy `Last`
-pub data Performs {D : Type 0} (Does : Operation → Outcome → Table D → Table D → Type 0) (Last : Outcome → Type 0) : List Operation → List Outcome → List ℕ → Table D → Table D → Type 0 where
+pub data Performs {D : Type 0} (Does : Operation → OperationOutcome → Table D → Table D → Type 0) (Last : OperationOutcome → Type 0) : List Operation → List OperationOutcome → List ℕ → Table D → Table D → Type 0 where
   NoneYet : (t : Table D) → Performs Does Last [] [] [] t t
-  OneMore : (operations : List Operation) (outcomes : List Outcome) (lines : List ℕ) (one : Operation) (outcome : Outcome) (t u v : Table D) →
+  OneMore : (operations : List Operation) (outcomes : List OperationOutcome) (lines : List ℕ) (one : Operation) (outcome : OperationOutcome) (t u v : Table D) →
       Performs Does Last operations outcomes lines t u → AllByRecursion (λ o. Last o → ⊥) outcomes → Does one outcome u v →
       Performs Does Last (operations ++ one ∷ []) (outcomes ++ outcome ∷ []) (lines ++ line_of one outcome) t v
 
 -- the last outcome satisfies `Last`
-abbrev pub EndsHere : (Last : Outcome → Type 0) → List Outcome → Type 0
-EndsHere Last outcomes = (before : List Outcome) × (last : Outcome) × (outcomes ≡ before ++ last ∷ []) × Last last
+abbrev pub EndsHere : (Last : OperationOutcome → Type 0) → List OperationOutcome → Type 0
+EndsHere Last outcomes = (before : List OperationOutcome) × (last : OperationOutcome) × (outcomes ≡ before ++ last ∷ []) × Last last
 
 -- all operations were performed, or those up to the first outcome that satisfies `Last`; these are their lines
-pub record PerformsAll {D : Type 0} (Does : Operation → Outcome → Table D → Table D → Type 0) (Last : Outcome → Type 0) (operations : List Operation) (old new : Table D) (lines : List ℕ) : Type 0 where
+pub record PerformsAll {D : Type 0} (Does : Operation → OperationOutcome → Table D → Table D → Type 0) (Last : OperationOutcome → Type 0) (operations : List Operation) (old new : Table D) (lines : List ℕ) : Type 0 where
   pub count : ℕ
-  pub outcomes : List Outcome
+  pub outcomes : List OperationOutcome
   pub performs : Performs Does Last (take count operations) outcomes lines old new
   pub all : (count ≡ length operations) ⊎ EndsHere Last outcomes
 
@@ -75,33 +75,33 @@ pub record Writes (before written : Option (List ℕ)) (AreOf : List ℕ → Typ
   pub are : AreOf lines
 
 -- all operations were performed, no outcome satisfies `Last`, and the lines were written
-pub record AppliesAll {D : Type 0} (Does : Operation → Outcome → Table D → Table D → Type 0) (Last : Outcome → Type 0) (operations : List Operation) (old new : Table D)
+pub record AppliesAll {D : Type 0} (Does : Operation → OperationOutcome → Table D → Table D → Type 0) (Last : OperationOutcome → Type 0) (operations : List Operation) (old new : Table D)
     (before written : Option (List ℕ)) : Type 0 where
-  pub outcomes : List Outcome
+  pub outcomes : List OperationOutcome
   pub performs : Writes before written (λ lines. Performs Does Last operations outcomes lines old new)
   pub go : AllByRecursion (λ o. Last o → ⊥) outcomes
 
 -- the operations were performed up to one that was refused, whose outcome satisfies `Last`; the lines were written
-pub record AppliesUpTo {D : Type 0} (Does : Operation → Outcome → Table D → Table D → Type 0) (Last : Outcome → Type 0) (operations : List Operation) (old new : Table D)
+pub record AppliesUpTo {D : Type 0} (Does : Operation → OperationOutcome → Table D → Table D → Type 0) (Last : OperationOutcome → Type 0) (operations : List Operation) (old new : Table D)
     (before written : Option (List ℕ)) (e : JournalError) : Type 0 where
   pub count : ℕ
-  pub outcomes : List Outcome
+  pub outcomes : List OperationOutcome
   pub performs : Writes before written (λ lines. Performs Does Last (take count operations) (outcomes ++ Refused e ∷ []) lines old new)
   pub last : Last (Refused e)
 
 -- the operations were performed up to one whose line could not be written
-pub record AppliesSome {D : Type 0} (Does : Operation → Outcome → Table D → Table D → Type 0) (Last : Outcome → Type 0) (operations : List Operation) (old new : Table D) : Type 0 where
+pub record AppliesSome {D : Type 0} (Does : Operation → OperationOutcome → Table D → Table D → Type 0) (Last : OperationOutcome → Type 0) (operations : List Operation) (old new : Table D) : Type 0 where
   pub count : ℕ
-  pub outcomes : List Outcome
+  pub outcomes : List OperationOutcome
   pub lines : List ℕ
   pub performs : Performs Does Last (take count operations) outcomes lines old new
 
 -- why `apply` ended before the last operation
-abbrev pub EndsFor : {D : Type 0} → (Does : Operation → Outcome → Table D → Table D → Type 0) → (Last : Outcome → Type 0) → List Operation → Table D → Table D → (before written : Option (List ℕ)) → Fault → Type 0
+abbrev pub EndsFor : {D : Type 0} → (Does : Operation → OperationOutcome → Table D → Table D → Type 0) → (Last : OperationOutcome → Type 0) → List Operation → Table D → Table D → (before written : Option (List ℕ)) → Fault → Type 0
 EndsFor Does Last operations old new before written (RefusedAll e) = AppliesUpTo Does Last operations old new before written e
 EndsFor Does Last operations old new before written (Output e) = AppliesSome Does Last operations old new
 
-abbrev pub Applies : {D : Type 0} → (Does : Operation → Outcome → Table D → Table D → Type 0) → (Last : Outcome → Type 0) → List Operation → Table D → Table D → (before written : Option (List ℕ)) → Result (Unit {0}) Fault → Type 0
+abbrev pub Applies : {D : Type 0} → (Does : Operation → OperationOutcome → Table D → Table D → Type 0) → (Last : OperationOutcome → Type 0) → List Operation → Table D → Table D → (before written : Option (List ℕ)) → Result (Unit {0}) Fault → Type 0
 Applies Does Last operations old new before written applied =
     MatchResult applied (λ _. AppliesAll Does Last operations old new before written) (EndsFor Does Last operations old new before written)
 

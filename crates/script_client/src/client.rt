@@ -52,7 +52,7 @@ impl HomeFact for ZeroHome {
 
 /// A journal, the operations that its client performs, and what was acknowledged.
 #[derive(Drop)]
-pub struct Client<'a, D: Device, H: HomeFact> {
+pub struct ScriptClient<'a, D: Device, H: HomeFact> {
     journal: Journal<D, Vec<Sealed>>,
     operations: &'a [Operation],
     /// The greatest acknowledged transaction: a wait or a status answered that it is committed.
@@ -60,7 +60,7 @@ pub struct Client<'a, D: Device, H: HomeFact> {
     of: PhantomData<H>,
 }
 
-impl<'a, D: Device, H: HomeFact> Model for Client<'a, D, H> {
+impl<'a, D: Device, H: HomeFact> Model for ScriptClient<'a, D, H> {
     ghost use Rattle.script_client.specs.Told.{ClientValue, HasLedTo};
 
     ghost Value = { ClientValue D };
@@ -72,7 +72,7 @@ impl<'a, D: Device, H: HomeFact> Model for Client<'a, D, H> {
 
 /// The rest of a journal after `close`, done or refused.
 #[derive(Drop)]
-pub struct Ended<D> {
+pub struct ClosedJournal<D> {
     /// The device, and the sealed transactions.
     pub parts: Parts<D, Vec<Sealed>>,
     /// The greatest acknowledged transaction.
@@ -91,7 +91,7 @@ pub enum Waited {
     Refused(Ticket, JournalError),
 }
 
-impl<'a, D: Device + Drop, H: HomeFact> Client<'a, D, H> {
+impl<'a, D: Device + Drop, H: HomeFact> ScriptClient<'a, D, H> {
     ghost use Rattle.group_commit.specs.Close.{IsSealedInClose, closing};
     ghost use Rattle.script_client.specs.Ended.{IsEnded, IsLeftClosed, WhyUnclosed};
     ghost use Rattle.script_client.specs.Shown.{IsWaited, IsNewClient, IsNextHandle, IsLeftOf, IsRefusedAborted, IsSameButJournal, IsShown, ticket_of};
@@ -112,7 +112,7 @@ impl<'a, D: Device + Drop, H: HomeFact> Client<'a, D, H> {
         ensures err { IfErr result (λ e. (e.0 ≡ opened) × (e.1 ≡ Memory)) }
     {
         match Journal::new(alloc, opened) {
-            Ok(journal) => Ok(Client {
+            Ok(journal) => Ok(ScriptClient {
                 journal,
                 operations,
                 acknowledged: None,
@@ -394,7 +394,7 @@ impl<'a, D: Device + Drop, H: HomeFact> Client<'a, D, H> {
         ensures led { D.honest result.0.device → IsLedTo H.holds self.entry.operations (D.state result.0.device) result.0.sealed.items result.1 }
         ensures left { IsLeftOf self.entry result.0.device result.0.sealed.items result.1 }
     {
-        let Client {
+        let ScriptClient {
             journal,
             operations: _,
             acknowledged,
@@ -405,7 +405,7 @@ impl<'a, D: Device + Drop, H: HomeFact> Client<'a, D, H> {
 
     /// Closes the journal. `NotRunning`: a handle is open, and nothing was done. Other refusals are those of a journal's close; what was
     /// sealed and committed by then stays so.
-    pub fn close(self) -> Ended<D>
+    pub fn close(self) -> ClosedJournal<D>
         ensures ended { D.honest result.parts.device → IsEnded H.holds self.entry.operations (D.state result.parts.device) result.parts.sealed.items result.acknowledged }
         ensures closed { OnOk result.closed (D.honest result.parts.device → IsLeftClosed (D.state result.parts.device) result.parts.sealed.items) }
         ensures sealed { MatchResult result.closed
@@ -414,26 +414,26 @@ impl<'a, D: Device + Drop, H: HomeFact> Client<'a, D, H> {
         ensures refused { IfErr result.closed (WhyUnclosed D.state self.entry.journal result.parts.device result.parts.sealed.items result.parts.committed) }
         ensures shown { result.acknowledged ≡ self.entry.shown }
     {
-        let Client {
+        let ScriptClient {
             journal,
             operations: _,
             acknowledged,
             of: PhantomData,
         } = self;
         if journal.has_open_handles() {
-            return Ended {
+            return ClosedJournal {
                 parts: journal.into_parts(),
                 acknowledged,
                 closed: Err(JournalError::NotRunning),
             };
         }
         match journal.close() {
-            Ok(parts) => Ended {
+            Ok(parts) => ClosedJournal {
                 parts,
                 acknowledged,
                 closed: Ok(()),
             },
-            Err((parts, e)) => Ended {
+            Err((parts, e)) => ClosedJournal {
                 parts,
                 acknowledged,
                 closed: Err(e),

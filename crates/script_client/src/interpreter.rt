@@ -1,15 +1,15 @@
 //! Performs a script's operations on a journal, with handles, tickets and receipts by name.
 ghost use Rattle.std.specs.Prelude.{◌≡◌, ◌↔◌, ◌++◌, Contains, IfErr, IfOk, IsTrue, MatchResult, drop, length, min, replicate, take};
 ghost use Rattle.journal_model.specs.declared.refusal.JournalError.TheVariants.{Memory, NeedSpace};
-ghost use Rattle.script_client.specs.declared.outcome.Outcome.TheVariants.{Done, Refused};
+ghost use Rattle.script_client.specs.declared.outcome.OperationOutcome.TheVariants.{Done, Refused};
 ghost use Rattle.script_client.specs.Performed.{IsIdle, block_from, told_of};
 
-use crate::client::{Client, Ended, HomeFact, Waited};
-use crate::outcome::{Outcome, PRINTED_BYTES};
+use crate::client::{HomeFact, ScriptClient, Waited};
+use crate::outcome::{OperationOutcome, PRINTED_BYTES};
 use crate::slots::{Slot, Slots};
 use block_device::Device;
-use group_commit::{CheckTurn, Handle, Parts, Receipt, Status, Ticket, Turn};
-use journal_model::{BlockNo, JournalError, Sealed, Tid};
+use group_commit::{CheckTurn, Handle, Receipt, Status, Ticket, Turn};
+use journal_model::{BlockNo, JournalError, Tid};
 use journal_script::{HANDLE_NAMES, HandleName, Operation};
 use recovery::Opened;
 use std::alloc::{AllocError, Global};
@@ -21,7 +21,7 @@ const MOST_TURNS: u32 = 2_000_000;
 /// A client, and what the names of its script stand for.
 pub struct Interpreter<'a, D: Device, H: HomeFact> {
     alloc: Global,
-    client: Client<'a, D, H>,
+    client: ScriptClient<'a, D, H>,
     slots: Slots,
     /// The greatest transaction for which a wait came to `Open`.
     open_wait: Option<Tid>,
@@ -50,12 +50,12 @@ fn block_of(alloc: Global, size: usize, bytes: &[u8]) -> Result<Vec<u8>, AllocEr
     Ok(block)
 }
 
-fn done_or_refused(answer: Result<(), JournalError>) -> Outcome
+fn done_or_refused(answer: Result<(), JournalError>) -> OperationOutcome
     ensures { MatchResult answer (λ _. result ≡ Done) (λ e. result ≡ Refused e) }
 {
     match answer {
-        Ok(()) => Outcome::Done,
-        Err(e) => Outcome::Refused(e),
+        Ok(()) => OperationOutcome::Done,
+        Err(e) => OperationOutcome::Refused(e),
     }
 }
 
@@ -72,37 +72,34 @@ fn is_idle_check(turn: CheckTurn) -> bool
 }
 
 /// Whether an operation was refused since the ring had no room for it.
-fn lacks_room(outcome: &Outcome) -> bool
+fn lacks_room(outcome: &OperationOutcome) -> bool
     ensures { IsTrue result ↔ (outcome.now ≡ Refused NeedSpace) }
 {
-    matches!(outcome, Outcome::Refused(JournalError::NeedSpace))
+    matches!(outcome, OperationOutcome::Refused(JournalError::NeedSpace))
 }
 
 /// Whether checkpoint turns were taken up to the first that had nothing to do.
-fn is_round_done(outcome: &Outcome) -> bool
-    ensures { IsTrue result ↔ (outcome.now ≡ Outcome.CheckTurn CheckTurn.Idle) }
+fn is_round_done(outcome: &OperationOutcome) -> bool
+    ensures { IsTrue result ↔ (outcome.now ≡ OperationOutcome.CheckTurn CheckTurn.Idle) }
 {
-    matches!(outcome, Outcome::CheckTurn(CheckTurn::Idle))
+    matches!(outcome, OperationOutcome::CheckTurn(CheckTurn::Idle))
 }
 
-fn told(tid: Tid, status: Status) -> Outcome
+fn told(tid: Tid, status: Status) -> OperationOutcome
     ensures { result ≡ told_of tid status }
 {
     match status {
-        Status::Committed => Outcome::Committed(tid),
-        Status::Open => Outcome::Open,
+        Status::Committed => OperationOutcome::Committed(tid),
+        Status::Open => OperationOutcome::Open,
     }
 }
 
 impl<'a, D: Device + Drop, H: HomeFact> Interpreter<'a, D, H> {
-    ghost use Rattle.std.specs.Prelude.{OnOk, true};
     ghost use Rattle.journal_script.specs.Named.{IsDirectOf};
-    ghost use Rattle.group_commit.specs.Close.{IsSealedInClose, closing};
-    ghost use Rattle.script_client.specs.Ended.{IsEnded, IsLeftClosed, IsUnclosed, StopsHandles};
+    ghost use Rattle.script_client.specs.Ended.{StopsHandles};
     ghost use Rattle.script_client.specs.Names.{stands_for};
     ghost use Rattle.script_client.specs.Performed.{HasDone, HasDoneAfterRound, HasDoneAs, HasRequested, HasRestarted, HasStarted, HasStatus, HasStopped, HasTouched, HasWaited, IsBegun, IsTouch, Locks, ReadsBlock, SyncsDirectly, TakesCheckTurns, TakesOneCheckTurn, TakesOneTurn, TakesTurns, TellsAgain, Touches, WaitsFor, WritesBlock, WritesDirectly};
     ghost use Rattle.script_client.specs.Shown.{IsLeftOf, IsSameButJournal};
-    ghost use Rattle.script_client.specs.Told.{IsLedTo};
 
     /// Makes an interpreter for `operations` over a new journal on an opened log.
     ///
@@ -122,7 +119,7 @@ impl<'a, D: Device + Drop, H: HomeFact> Interpreter<'a, D, H> {
             Ok(room) => room,
             Err(_) => return Err((opened, JournalError::Memory)),
         };
-        match Client::new(alloc, opened, operations) {
+        match ScriptClient::new(alloc, opened, operations) {
             Ok(client) => Ok(Interpreter {
                 alloc,
                 client,
@@ -137,7 +134,7 @@ impl<'a, D: Device + Drop, H: HomeFact> Interpreter<'a, D, H> {
     }
 
     /// Runs one operation.
-    pub fn perform(&mut self, operation: &Operation) -> Outcome
+    pub fn perform(&mut self, operation: &Operation) -> OperationOutcome
         requires { Contains self.old.client.operations operation.now }
         ensures done { HasDone D.state D.honest operation.now result (record { client = self.old.client; names = self.old.slots }) (record { client = self.new.client; names = self.new.slots }) }
         ensures operations { self.new.client.operations ≡ self.old.client.operations }
@@ -165,34 +162,25 @@ impl<'a, D: Device + Drop, H: HomeFact> Interpreter<'a, D, H> {
 
     /// Runs one of its operations as `perform` does. With `makes_room`, an operation for which the ring has no room is run once more, after
     /// checkpoint turns up to the first that has nothing to do. If such a turn is refused, its refusal is the outcome.
-    pub fn perform_as(&mut self, operation: &Operation, makes_room: bool) -> Outcome
+    pub fn perform_as(&mut self, operation: &Operation, makes_room: bool) -> OperationOutcome
         requires { Contains self.old.client.operations operation.now }
         ensures done { HasDoneAs makes_room D.state D.honest operation.now result (record { client = self.old.client; names = self.old.slots }) (record { client = self.new.client; names = self.new.slots }) }
         ensures operations { self.new.client.operations ≡ self.old.client.operations }
     {
         if makes_room {
-            self.perform_in_room(operation)
+            let outcome = self.perform(operation);
+            if lacks_room(&outcome) {
+                self.perform_after_round(operation)
+            } else {
+                outcome
+            }
         } else {
             self.perform(operation)
         }
     }
 
-    /// Runs one of its operations, and makes room for it where the ring has none.
-    fn perform_in_room(&mut self, operation: &Operation) -> Outcome
-        requires { Contains self.old.client.operations operation.now }
-        ensures done { HasDoneAs true D.state D.honest operation.now result (record { client = self.old.client; names = self.old.slots }) (record { client = self.new.client; names = self.new.slots }) }
-        ensures operations { self.new.client.operations ≡ self.old.client.operations }
-    {
-        let outcome = self.perform(operation);
-        if lacks_room(&outcome) {
-            self.perform_after_round(operation)
-        } else {
-            outcome
-        }
-    }
-
     /// Takes checkpoint turns up to the first that has nothing to do, and runs one of its operations.
-    fn perform_after_round(&mut self, operation: &Operation) -> Outcome
+    fn perform_after_round(&mut self, operation: &Operation) -> OperationOutcome
         requires { Contains self.old.client.operations operation.now }
         ensures done { HasDoneAfterRound D.state D.honest operation.now result (record { client = self.old.client; names = self.old.slots }) (record { client = self.new.client; names = self.new.slots }) }
         ensures operations { self.new.client.operations ≡ self.old.client.operations }
@@ -210,33 +198,8 @@ impl<'a, D: Device + Drop, H: HomeFact> Interpreter<'a, D, H> {
         self.open_wait
     }
 
-    /// Whether the device has failed.
-    pub fn is_aborted(&self) -> bool {
-        self.client.is_aborted()
-    }
-
-    /// Stops the open handles and ends the journal. Returns its device, the sealed transactions, and the greatest acknowledged one.
-    pub fn finish(self) -> (Parts<D, Vec<Sealed>>, Option<Tid>)
-        ensures led { D.honest result.0.device → IsLedTo H.holds self.entry.client.operations (D.state result.0.device) result.0.sealed.items result.1 }
-        ensures left { IsLeftOf self.entry.client result.0.device result.0.sealed.items result.1 }
-    {
-        self.into_stopped().finish()
-    }
-
-    /// Stops the open handles and closes the journal.
-    pub fn close(self) -> Ended<D>
-        ensures ended { D.honest result.parts.device → IsEnded H.holds self.entry.client.operations (D.state result.parts.device) result.parts.sealed.items result.acknowledged }
-        ensures closed { OnOk result.closed (D.honest result.parts.device → IsLeftClosed (D.state result.parts.device) result.parts.sealed.items) }
-        ensures sealed { MatchResult result.closed
-            (λ _. result.parts.sealed.items ≡ closing self.entry.client.journal.journal.front)
-            (λ _. IsSealedInClose self.entry.client.journal.journal.front result.parts.sealed.items) }
-        ensures refused { IfErr result.closed (IsUnclosed D.state self.entry.client.journal result.parts.device result.parts.sealed.items) }
-        ensures shown { result.acknowledged ≡ self.entry.client.shown }
-    {
-        self.into_stopped().close()
-    }
-
-    fn into_stopped(self) -> Client<'a, D, H>
+    /// Stops the open handles.
+    pub fn into_stopped(self) -> ScriptClient<'a, D, H>
         ensures operations { result.operations ≡ self.entry.client.operations }
         ensures left { IsLeftOf self.entry.client result.journal.device result.journal.journal.front.sealed result.shown }
         ensures running { result.journal.journal.front.running ≡ self.entry.client.journal.journal.front.running }
@@ -262,27 +225,27 @@ impl<'a, D: Device + Drop, H: HomeFact> Interpreter<'a, D, H> {
     }
 
     /// Starts a handle, if its name stands for no open one. After a refusal the name stands for nothing.
-    fn start(&mut self, name: HandleName, credits: u64) -> Outcome
+    fn start(&mut self, name: HandleName, credits: u64) -> OperationOutcome
         ensures rest { IsSameButJournal self.old.client self.new.client }
         ensures done { HasStarted D.state name credits result (record { client = self.old.client; names = self.old.slots }) (record { client = self.new.client; names = self.new.slots }) }
     {
         if !self.slots.is_free(name) {
-            return Outcome::Skipped;
+            return OperationOutcome::Skipped;
         }
         match self.client.start(credits) {
             Ok(handle) => {
                 let tid = handle.tid();
                 self.slots.put(name, Slot::Open(handle));
-                Outcome::Transaction(tid)
+                OperationOutcome::Transaction(tid)
             }
             Err(e) => {
                 self.slots.put(name, Slot::Empty);
-                Outcome::Refused(e)
+                OperationOutcome::Refused(e)
             }
         }
     }
 
-    fn touch(&mut self, name: HandleName, operation: &Operation) -> Outcome
+    fn touch(&mut self, name: HandleName, operation: &Operation) -> OperationOutcome
         requires { IsTouch operation.now }
         ensures rest { IsSameButJournal self.old.client self.new.client }
         ensures done { HasTouched D.state D.honest operation.now name (stands_for self.old.slots name) result (record { client = self.old.client; names = self.old.slots }) (record { client = self.new.client; names = self.new.slots }) }
@@ -295,12 +258,12 @@ impl<'a, D: Device + Drop, H: HomeFact> Interpreter<'a, D, H> {
             }
             other => {
                 self.slots.put(name, other);
-                Outcome::Skipped
+                OperationOutcome::Skipped
             }
         }
     }
 
-    fn touch_by(&mut self, handle: &mut Handle, operation: &Operation) -> Outcome
+    fn touch_by(&mut self, handle: &mut Handle, operation: &Operation) -> OperationOutcome
         requires { IsTouch operation.now }
         ensures rest { IsSameButJournal self.old.client self.new.client }
         ensures done { Touches D.state D.honest operation.now result handle.old handle.new self.old.client.journal self.new.client.journal }
@@ -315,18 +278,18 @@ impl<'a, D: Device + Drop, H: HomeFact> Interpreter<'a, D, H> {
         }
     }
 
-    fn write(&mut self, handle: &mut Handle, block: BlockNo, bytes: &[u8]) -> Outcome
+    fn write(&mut self, handle: &mut Handle, block: BlockNo, bytes: &[u8]) -> OperationOutcome
         ensures rest { IsSameButJournal self.old.client self.new.client }
         ensures done { WritesBlock D.state block bytes.now result handle.old handle.new self.old.client.journal self.new.client.journal }
         ensures slots { self.new.slots ≡ self.old.slots }
     {
         match block_of(self.alloc, self.client.block_size(), bytes) {
             Ok(whole) => done_or_refused(self.client.write(handle, block, &whole)),
-            Err(_) => Outcome::Refused(JournalError::Memory),
+            Err(_) => OperationOutcome::Refused(JournalError::Memory),
         }
     }
 
-    fn read(&mut self, handle: &mut Handle, block: BlockNo) -> Outcome
+    fn read(&mut self, handle: &mut Handle, block: BlockNo) -> OperationOutcome
         ensures rest { IsSameButJournal self.old.client self.new.client }
         ensures done { ReadsBlock D.state D.honest block result handle.old self.old.client.journal self.new.client.journal }
         ensures handle { handle.new ≡ handle.old }
@@ -334,15 +297,15 @@ impl<'a, D: Device + Drop, H: HomeFact> Interpreter<'a, D, H> {
     {
         match vec![in self.alloc; 0; self.client.block_size()] {
             Ok(mut bytes) => match self.client.read(handle, block, &mut bytes) {
-                Ok(()) => Outcome::Begins(front_of(&bytes)),
-                Err(e) => Outcome::Refused(e),
+                Ok(()) => OperationOutcome::Begins(front_of(&bytes)),
+                Err(e) => OperationOutcome::Refused(e),
             },
-            Err(_) => Outcome::Refused(JournalError::Memory),
+            Err(_) => OperationOutcome::Refused(JournalError::Memory),
         }
     }
 
     /// Restarts a handle. After a refusal the name stands for the stopped handle's ticket.
-    fn restart(&mut self, name: HandleName, credits: u64) -> Outcome
+    fn restart(&mut self, name: HandleName, credits: u64) -> OperationOutcome
         ensures rest { IsSameButJournal self.old.client self.new.client }
         ensures done { HasRestarted D.state name credits (stands_for self.old.slots name) result (record { client = self.old.client; names = self.old.slots }) (record { client = self.new.client; names = self.new.slots }) }
     {
@@ -351,21 +314,21 @@ impl<'a, D: Device + Drop, H: HomeFact> Interpreter<'a, D, H> {
                 Ok(handle) => {
                     let tid = handle.tid();
                     self.slots.put(name, Slot::Open(handle));
-                    Outcome::Transaction(tid)
+                    OperationOutcome::Transaction(tid)
                 }
                 Err((ticket, e)) => {
                     self.slots.put(name, Slot::Stopped(ticket));
-                    Outcome::Refused(e)
+                    OperationOutcome::Refused(e)
                 }
             },
             other => {
                 self.slots.put(name, other);
-                Outcome::Skipped
+                OperationOutcome::Skipped
             }
         }
     }
 
-    fn stop(&mut self, name: HandleName) -> Outcome
+    fn stop(&mut self, name: HandleName) -> OperationOutcome
         ensures rest { IsSameButJournal self.old.client self.new.client }
         ensures done { HasStopped D.state name (stands_for self.old.slots name) result (record { client = self.old.client; names = self.old.slots }) (record { client = self.new.client; names = self.new.slots }) }
     {
@@ -374,65 +337,65 @@ impl<'a, D: Device + Drop, H: HomeFact> Interpreter<'a, D, H> {
                 let ticket = self.client.stop(handle);
                 let tid = ticket.tid();
                 self.slots.put(name, Slot::Stopped(ticket));
-                Outcome::Transaction(tid)
+                OperationOutcome::Transaction(tid)
             }
             other => {
                 self.slots.put(name, other);
-                Outcome::Skipped
+                OperationOutcome::Skipped
             }
         }
     }
 
     /// Requests a commit; for a receipt, whose transaction is committed, the journal need not be asked.
-    fn request(&mut self, name: HandleName) -> Outcome
+    fn request(&mut self, name: HandleName) -> OperationOutcome
         ensures rest { IsSameButJournal self.old.client self.new.client }
         ensures done { HasRequested D.state (stands_for self.old.slots name) result (record { client = self.old.client; names = self.old.slots }) (record { client = self.new.client; names = self.new.slots }) }
     {
         match self.slots.get(name) {
             Some(Slot::Stopped(ticket)) => done_or_refused(self.client.request(ticket)),
-            Some(Slot::Waited(_)) if self.client.is_aborted() => Outcome::Refused(
+            Some(Slot::Waited(_)) if self.client.is_aborted() => OperationOutcome::Refused(
                 JournalError::Aborted,
             ),
-            Some(Slot::Waited(_)) => Outcome::Done,
-            _ => Outcome::Skipped,
+            Some(Slot::Waited(_)) => OperationOutcome::Done,
+            _ => OperationOutcome::Skipped,
         }
     }
 
-    fn lock(&mut self) -> Outcome
+    fn lock(&mut self) -> OperationOutcome
         ensures rest { IsSameButJournal self.old.client self.new.client }
         ensures done { Locks D.state result self.old.client.journal self.new.client.journal }
         ensures slots { self.new.slots ≡ self.old.slots }
     {
         match self.client.lock() {
-            Ok(tid) => Outcome::Transaction(tid),
-            Err(e) => Outcome::Refused(e),
+            Ok(tid) => OperationOutcome::Transaction(tid),
+            Err(e) => OperationOutcome::Refused(e),
         }
     }
 
-    fn turn(&mut self) -> Outcome
+    fn turn(&mut self) -> OperationOutcome
         ensures rest { IsSameButJournal self.old.client self.new.client }
         ensures done { TakesOneTurn D.state result self.old.client.journal self.new.client.journal }
         ensures slots { self.new.slots ≡ self.old.slots }
     {
         match self.client.commit_turn() {
-            Ok(turn) => Outcome::Turn(turn),
-            Err(e) => Outcome::Refused(e),
+            Ok(turn) => OperationOutcome::Turn(turn),
+            Err(e) => OperationOutcome::Refused(e),
         }
     }
 
-    fn checkpoint_turn(&mut self) -> Outcome
+    fn checkpoint_turn(&mut self) -> OperationOutcome
         ensures rest { IsSameButJournal self.old.client self.new.client }
         ensures done { TakesOneCheckTurn D.state result self.old.client.journal self.new.client.journal }
         ensures slots { self.new.slots ≡ self.old.slots }
     {
         match self.client.checkpoint_turn() {
-            Ok(turn) => Outcome::CheckTurn(turn),
-            Err(e) => Outcome::Refused(e),
+            Ok(turn) => OperationOutcome::CheckTurn(turn),
+            Err(e) => OperationOutcome::Refused(e),
         }
     }
 
     /// Takes checkpoint turns up to the first that has nothing to do.
-    fn check(&mut self) -> Outcome
+    fn check(&mut self) -> OperationOutcome
         ensures rest { IsSameButJournal self.old.client self.new.client }
         ensures done { TakesCheckTurns D.state result self.old.client.journal self.new.client.journal }
         ensures slots { self.new.slots ≡ self.old.slots }
@@ -441,17 +404,17 @@ impl<'a, D: Device + Drop, H: HomeFact> Interpreter<'a, D, H> {
             match self.client.checkpoint_turn() {
                 Ok(turn) => {
                     if is_idle_check(turn) {
-                        return Outcome::CheckTurn(CheckTurn::Idle);
+                        return OperationOutcome::CheckTurn(CheckTurn::Idle);
                     }
                 }
-                Err(e) => return Outcome::Refused(e),
+                Err(e) => return OperationOutcome::Refused(e),
             }
         }
-        Outcome::CheckTurn(CheckTurn::Idle)
+        OperationOutcome::CheckTurn(CheckTurn::Idle)
     }
 
     /// Takes commit turns up to the first that has nothing to do.
-    fn commit(&mut self) -> Outcome
+    fn commit(&mut self) -> OperationOutcome
         ensures rest { IsSameButJournal self.old.client self.new.client }
         ensures done { TakesTurns D.state result self.old.client.journal self.new.client.journal }
         ensures slots { self.new.slots ≡ self.old.slots }
@@ -460,29 +423,29 @@ impl<'a, D: Device + Drop, H: HomeFact> Interpreter<'a, D, H> {
             match self.client.commit_turn() {
                 Ok(turn) => {
                     if is_idle(turn) {
-                        return Outcome::Transaction(self.client.mark());
+                        return OperationOutcome::Transaction(self.client.mark());
                     }
                 }
-                Err(e) => return Outcome::Refused(e),
+                Err(e) => return OperationOutcome::Refused(e),
             }
         }
-        Outcome::Transaction(self.client.mark())
+        OperationOutcome::Transaction(self.client.mark())
     }
 
     /// The status of a name's transaction; a committed one is noted.
-    fn status(&mut self, name: HandleName) -> Outcome
+    fn status(&mut self, name: HandleName) -> OperationOutcome
         ensures done { HasStatus (stands_for self.old.slots name) result (record { client = self.old.client; names = self.old.slots }) (record { client = self.new.client; names = self.new.slots }) }
         ensures operations { self.new.client.operations ≡ self.old.client.operations }
     {
         match self.slots.get(name) {
             Some(Slot::Stopped(ticket)) => told(ticket.tid(), self.client.status(ticket)),
             Some(Slot::Waited(receipt)) => told(receipt.tid(), self.client.confirm(receipt)),
-            _ => Outcome::Skipped,
+            _ => OperationOutcome::Skipped,
         }
     }
 
     /// Takes the receipt of a committed transaction, and notes it. Does not wait for an open one.
-    fn wait(&mut self, name: HandleName) -> Outcome
+    fn wait(&mut self, name: HandleName) -> OperationOutcome
         ensures done { HasWaited name (stands_for self.old.slots name) result (record { client = self.old.client; names = self.old.slots }) (record { client = self.new.client; names = self.new.slots }) }
         ensures operations { self.new.client.operations ≡ self.old.client.operations }
     {
@@ -499,39 +462,42 @@ impl<'a, D: Device + Drop, H: HomeFact> Interpreter<'a, D, H> {
             }
             other => {
                 self.slots.put(name, other);
-                Outcome::Skipped
+                OperationOutcome::Skipped
             }
         }
     }
 
     /// The answer to a wait by a receipt: its transaction, noted again, or `Aborted` as for every ticket of an aborted journal.
-    fn wait_again(&mut self, receipt: &Receipt) -> Outcome
+    fn wait_again(&mut self, receipt: &Receipt) -> OperationOutcome
         ensures done { TellsAgain receipt.now.tid result self.old.client self.new.client }
         ensures slots { self.new.slots ≡ self.old.slots }
     {
         if self.client.is_aborted() {
-            return Outcome::Refused(JournalError::Aborted);
+            return OperationOutcome::Refused(JournalError::Aborted);
         }
         match self.client.confirm(receipt) {
-            Status::Committed => Outcome::Transaction(receipt.tid()),
-            Status::Open => Outcome::Open,
+            Status::Committed => OperationOutcome::Transaction(receipt.tid()),
+            Status::Open => OperationOutcome::Open,
         }
     }
 
     /// Takes the receipt for a ticket, if its transaction is committed. Returns also the name's new slot.
-    fn wait_for(&mut self, ticket: Ticket) -> (Outcome, Slot)
+    fn wait_for(&mut self, ticket: Ticket) -> (OperationOutcome, Slot)
         ensures done { WaitsFor ticket result.0 result.1 self.old.client self.new.client }
         ensures slots { self.new.slots ≡ self.old.slots }
     {
         match self.client.wait(ticket) {
             Waited::Committed(receipt) => {
-                (Outcome::Transaction(receipt.tid()), Slot::Waited(receipt))
+                (
+                    OperationOutcome::Transaction(receipt.tid()),
+                    Slot::Waited(receipt),
+                )
             }
             Waited::Open(ticket) => {
                 self.note_open(ticket.tid());
-                (Outcome::Open, Slot::Stopped(ticket))
+                (OperationOutcome::Open, Slot::Stopped(ticket))
             }
-            Waited::Refused(ticket, e) => (Outcome::Refused(e), Slot::Stopped(ticket)),
+            Waited::Refused(ticket, e) => (OperationOutcome::Refused(e), Slot::Stopped(ticket)),
         }
     }
 
@@ -546,7 +512,7 @@ impl<'a, D: Device + Drop, H: HomeFact> Interpreter<'a, D, H> {
         };
     }
 
-    fn write_direct(&mut self, block: BlockNo, bytes: &[u8]) -> Outcome
+    fn write_direct(&mut self, block: BlockNo, bytes: &[u8]) -> OperationOutcome
         requires { IsDirectOf self.old.client.operations block }
         ensures rest { IsSameButJournal self.old.client self.new.client }
         ensures done { WritesDirectly D.state block bytes.now result self.old.client.journal self.new.client.journal }
@@ -554,11 +520,11 @@ impl<'a, D: Device + Drop, H: HomeFact> Interpreter<'a, D, H> {
     {
         match block_of(self.alloc, self.client.block_size(), bytes) {
             Ok(whole) => done_or_refused(self.client.write_direct(block, &whole)),
-            Err(_) => Outcome::Refused(JournalError::Memory),
+            Err(_) => OperationOutcome::Refused(JournalError::Memory),
         }
     }
 
-    fn sync_direct(&mut self) -> Outcome
+    fn sync_direct(&mut self) -> OperationOutcome
         ensures rest { IsSameButJournal self.old.client self.new.client }
         ensures done { SyncsDirectly D.state result self.old.client.journal self.new.client.journal }
         ensures slots { self.new.slots ≡ self.old.slots }

@@ -11,7 +11,7 @@ pub const PRINTED_BYTES: usize = 8;
 
 /// The outcome of an operation.
 #[derive(Clone, Copy)]
-pub enum Outcome {
+pub enum OperationOutcome {
     /// Accepted; the number of the transaction that it is about.
     Transaction(Tid),
     /// Accepted; there is nothing more to tell.
@@ -32,7 +32,7 @@ pub enum Outcome {
     Refused(JournalError),
 }
 
-impl fmt::Display for Outcome {
+impl fmt::Display for OperationOutcome {
     ghost use Rattle.std.specs.Prelude.{Some};
     ghost use Rattle.script_client.specs.Lines.{outcome_text};
 
@@ -40,15 +40,15 @@ impl fmt::Display for Outcome {
 
     fn fmt<W: fmt::Write>(&self, f: &mut fmt::Formatter<W>) -> fmt::Result {
         match self {
-            Outcome::Transaction(tid) => write!(f, "{}", tid.0),
-            Outcome::Done => f.write_str("ok"),
-            Outcome::Begins(bytes) => write!(f, "{}", Hex(bytes)),
-            Outcome::Turn(turn) => write_turn(f, *turn),
-            Outcome::CheckTurn(turn) => write_check_turn(f, *turn),
-            Outcome::Committed(_) => f.write_str("committed"),
-            Outcome::Open => f.write_str("open"),
-            Outcome::Skipped => f.write_str("skipped"),
-            Outcome::Refused(e) => write_refusal(f, *e),
+            OperationOutcome::Transaction(tid) => write!(f, "{}", tid.0),
+            OperationOutcome::Done => f.write_str("ok"),
+            OperationOutcome::Begins(bytes) => write!(f, "{}", Hex(bytes)),
+            OperationOutcome::Turn(turn) => write_turn(f, *turn),
+            OperationOutcome::CheckTurn(turn) => write_check_turn(f, *turn),
+            OperationOutcome::Committed(_) => f.write_str("committed"),
+            OperationOutcome::Open => f.write_str("open"),
+            OperationOutcome::Skipped => f.write_str("skipped"),
+            OperationOutcome::Refused(e) => write_refusal(f, *e),
         }
     }
 }

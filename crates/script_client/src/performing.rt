@@ -2,19 +2,19 @@
 ghost use Rattle.std.specs.Prelude.{◌≡◌, ◌↔◌, IfErr, IfNone, IfOk, IfSome, IsTrue, OnErr, OnOk};
 ghost use Rattle.std.specs.Io.KnownBytes.{Appends};
 ghost use Rattle.journal_model.specs.declared.refusal.JournalError.TheVariants.{Memory};
-ghost use Rattle.script_client.specs.declared.outcome.Outcome.TheVariants.{Refused};
+ghost use Rattle.script_client.specs.declared.outcome.OperationOutcome.TheVariants.{Refused};
 ghost use Rattle.script_client.specs.declared.performing.Ending.TheVariants.{Close, Stay};
 ghost use Rattle.script_client.specs.Ended.{IsEnded, IsLeftClosed};
 ghost use Rattle.script_client.specs.Lines.{line_of};
-ghost use Rattle.script_client.specs.Outcomes.{Applies, EndsApply, EndsAs, HasApplied, HasPerformed, IsAppliedAs, IsClosedAs, IsLast, IsLastApplied, IsUnperformed, PerformsAll, PerformsTo, Writes};
+ghost use Rattle.script_client.specs.Outcomes.{Applies, EndsApply, HasApplied, HasPerformed, IsAppliedAs, IsClosedAs, IsLast, IsLastApplied, IsUnperformed, PerformsAll, Writes};
 ghost use Rattle.script_client.specs.Performed.{HasDone, HasDoneAs};
 ghost use Rattle.script_client.specs.Shown.{IsLeftOf};
 ghost use Rattle.script_client.specs.Told.{IsLedTo};
 
-use crate::client::{Ended, HomeFact};
+use crate::client::{ClosedJournal, HomeFact};
 use crate::fault::Fault;
 use crate::interpreter::Interpreter;
-use crate::outcome::Outcome;
+use crate::outcome::OperationOutcome;
 use block_device::Device;
 use journal_model::{JournalError, Sealed, Tid};
 use journal_script::Operation;
@@ -95,26 +95,10 @@ pub fn perform<D: Device + Drop, H: HomeFact, W: Write>(
         (HasPerformed D.state D.honest opened operations.now after performed.device performed.sealed.items performed.acknowledged)) }
     ensures err { IfErr result IsUnperformed }
 {
-    match Interpreter::<D, H>::new(alloc, opened, operations) {
-        Ok(interpreter) => perform_by(interpreter, operations, after, out),
-        Err((_, e)) => Err(Fault::Refused(e)),
-    }
-}
-
-fn perform_by<D: Device + Drop, H: HomeFact, W: Write>(
-    interpreter: Interpreter<'_, D, H>,
-    operations: &[Operation],
-    after: AfterFailure,
-    out: &mut W,
-) -> Result<Performed<D>, Fault>
-    requires { interpreter.client.operations ≡ operations.now }
-    ensures led { IfOk result (λ performed. D.honest performed.device →
-        IsLedTo H.holds operations.now (D.state performed.device) performed.sealed.items performed.acknowledged) }
-    ensures outcomes { IfOk result (λ performed. Writes (W.contents out.old) (W.contents out.new)
-        (PerformsTo D.state D.honest (record { client = interpreter.entry.client; names = interpreter.entry.slots }) operations.now after performed.device performed.sealed.items performed.acknowledged)) }
-    ensures err { IfErr result IsUnperformed }
-{
-    let mut interpreter = interpreter;
+    let mut interpreter = match Interpreter::<D, H>::new(alloc, opened, operations) {
+        Ok(interpreter) => interpreter,
+        Err((_, e)) => return Err(Fault::Refused(e)),
+    };
     match perform_all(&mut interpreter, operations, after, out) {
         Ok(()) => Ok(left_of(interpreter)),
         Err(e) => {
@@ -216,18 +200,22 @@ fn apply_all<D: Device + Drop, H: HomeFact, W: Write>(
     Ok(())
 }
 
-fn write_line<W: Write>(operation: &Operation, outcome: &Outcome, out: &mut W) -> io::Result<()>
+fn write_line<W: Write>(
+    operation: &Operation,
+    outcome: &OperationOutcome,
+    out: &mut W,
+) -> io::Result<()>
     ensures { OnOk result (Appends (W.contents out.old) (W.contents out.new) (line_of operation.now outcome.now)) }
 {
     writeln!(out, "{operation} = {outcome}")
 }
 
-fn last_refusal(outcome: Outcome, after: AfterRefusal) -> Option<JournalError>
+fn last_refusal(outcome: OperationOutcome, after: AfterRefusal) -> Option<JournalError>
     ensures some { IfSome result (λ e. (outcome ≡ Refused e) × EndsApply after e) }
     ensures none { IfNone result (IsLastApplied after outcome → ⊥) }
 {
     match outcome {
-        Outcome::Refused(e) if !after.goes_on || e == JournalError::Device => Some(e),
+        OperationOutcome::Refused(e) if !after.goes_on || e == JournalError::Device => Some(e),
         _ => None,
     }
 }
@@ -244,23 +232,11 @@ fn end_of<D: Device + Drop, H: HomeFact>(
     ensures applied { IsAppliedAs D.state applied ending interpreter.entry.client result.left.device result.left.sealed.items result.left.acknowledged result.end }
 {
     match applied {
-        Ok(()) => end_as(interpreter, ending),
+        Ok(()) => match ending {
+            Ending::Close => close(interpreter),
+            Ending::Stay => stay(interpreter, Ok(())),
+        },
         Err(fault) => stay(interpreter, Err(fault)),
-    }
-}
-
-fn end_as<D: Device + Drop, H: HomeFact>(
-    interpreter: Interpreter<'_, D, H>,
-    ending: Ending,
-) -> Applied<D>
-    ensures ended { D.honest result.left.device → IsEnded H.holds interpreter.entry.client.operations (D.state result.left.device) result.left.sealed.items result.left.acknowledged }
-    ensures closed { ending ≡ Close → OnOk result.end (D.honest result.left.device → IsLeftClosed (D.state result.left.device) result.left.sealed.items) }
-    ensures stays { ending ≡ Stay → D.honest result.left.device → IsLedTo H.holds interpreter.entry.client.operations (D.state result.left.device) result.left.sealed.items result.left.acknowledged }
-    ensures ends { EndsAs D.state ending interpreter.entry.client result.left.device result.left.sealed.items result.left.acknowledged result.end }
-{
-    match ending {
-        Ending::Close => close(interpreter),
-        Ending::Stay => stay(interpreter, Ok(())),
     }
 }
 
@@ -285,11 +261,11 @@ fn close<D: Device + Drop, H: HomeFact>(interpreter: Interpreter<'_, D, H>) -> A
     ensures closed_as { IsClosedAs D.state interpreter.entry.client result.left.device result.left.sealed.items result.left.acknowledged result.end }
 {
     let open_wait = interpreter.open_wait();
-    let Ended {
+    let ClosedJournal {
         parts,
         acknowledged,
         closed,
-    } = interpreter.close();
+    } = interpreter.into_stopped().close();
     let left = Performed {
         device: parts.device,
         sealed: parts.sealed,
@@ -326,10 +302,10 @@ fn perform_all<D: Device + Drop, H: HomeFact, W: Write>(
     Ok(())
 }
 
-fn is_last(outcome: Outcome, after: AfterFailure) -> bool
+fn is_last(outcome: OperationOutcome, after: AfterFailure) -> bool
     ensures { IsTrue result ↔ IsLast after outcome }
 {
-    after == AfterFailure::End && matches!(outcome, Outcome::Refused(JournalError::Device))
+    after == AfterFailure::End && matches!(outcome, OperationOutcome::Refused(JournalError::Device))
 }
 
 fn left_of<D: Device + Drop, H: HomeFact>(interpreter: Interpreter<'_, D, H>) -> Performed<D>
@@ -337,7 +313,7 @@ fn left_of<D: Device + Drop, H: HomeFact>(interpreter: Interpreter<'_, D, H>) ->
     ensures left { IsLeftOf interpreter.entry.client result.device result.sealed.items result.acknowledged }
 {
     let open_wait = interpreter.open_wait();
-    let (parts, acknowledged) = interpreter.finish();
+    let (parts, acknowledged) = interpreter.into_stopped().finish();
     Performed {
         device: parts.device,
         sealed: parts.sealed,

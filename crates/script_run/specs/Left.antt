@@ -9,7 +9,7 @@ use Rattle.journal_script.specs.Named.{AreNamedBy}
 use Rattle.journal_script.specs.declared.script.NamedBlocks.{NamedBlocks}
 use Rattle.script_run.specs.Reopening.{IsOpeningVerdict}
 use Rattle.script_run.specs.Verdict.{IsImageVerdict}
-use Rattle.script_run.specs.declared.running.Stopped.{Stopped}
+use Rattle.script_run.specs.declared.running.StoppedRun.{StoppedRun}
 use Rattle.script_run.specs.declared.stops.Stop.{Stop}
 use Rattle.script_run.specs.declared.stops.Stops.{Stops}
 use Rattle.block_device.specs.declared.fail.FailOnce.{FailOnce}
@@ -43,7 +43,7 @@ IsStoppedAtWrite None (Some at) writes = ⊥
 IsStoppedAtWrite (Some k) None writes = (k ≡ 0) ⊎ (writes < k)
 IsStoppedAtWrite (Some k) (Some at) writes = (at ≡ k) × (writes ≡ k)
 
-abbrev pub IsStoppedBy : Option ℕ → Stopped → Type 0
+abbrev pub IsStoppedBy : Option ℕ → StoppedRun → Type 0
 IsStoppedBy stop stopped = IsStoppedAtWrite stop stopped.at_write (writes_of stopped.device.calls)
 
 -- the script goes on after a failing call, and ends when the device stops

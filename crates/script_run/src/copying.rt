@@ -7,7 +7,7 @@ ghost use Rattle.block_device.specs.State.{blocks_in};
 ghost use Rattle.script_run.specs.Copying.{CallsUntilFailure, CopyRefused, HasCopied, IsCopiedRun, IsCopy, IsCopyTried, IsOnlyRead, IsTriedRun};
 ghost use Rattle.script_run.specs.Left.{IsLeftVerdict};
 
-use crate::running::{Left, end_of_run, judge_left};
+use crate::running::{CrashedRun, end_of_run, judge_left};
 use crate::stops::{Stop, Stops};
 use block_device::{Device, DeviceFault, MemDevice};
 use journal_model::{Area, JournalError};
@@ -45,7 +45,7 @@ pub fn run_copied<D: Device>(
 /// Those of `judge_left`, after a whole copy; or those of `copy_image`, and then nothing was printed.
 pub fn judge_copied<D: Device>(
     alloc: Global,
-    left: Left,
+    left: CrashedRun,
     to: &mut D,
     opening: Stop<'_>,
     named: &NamedBlocks,

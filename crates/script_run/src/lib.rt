@@ -16,7 +16,9 @@ pub use copying::{copy_image, judge_copied, run_copied};
 pub use disk::{RunDevice, empty_disk, empty_log, run_device};
 pub use opening::{OpenedImage, judge_opened, open_image};
 pub use reopening::{Attempt, judge_reopened, open_to};
-pub use running::{Left, Stopped, judge, judge_left, run, run_operations, run_operations_over};
+pub use running::{
+    CrashedRun, StoppedRun, judge, judge_left, run, run_operations, run_operations_over,
+};
 pub use script_client::{AfterFailure, AnyHome, Fault, HomeFact, ZeroHome};
 pub use stops::{Stop, Stops};
-pub use verdict::Record;
+pub use verdict::RunRecord;

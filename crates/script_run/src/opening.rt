@@ -10,7 +10,7 @@ ghost use Rattle.script_run.specs.OpenedImages.{IsOpenedImage, IsUnopened};
 ghost use Rattle.script_run.specs.Verdict.{IsImageVerdict, IsRight};
 
 use crate::blocks::read_block;
-use crate::verdict::Record;
+use crate::verdict::RunRecord;
 use block_device::{Device, MemDevice};
 use journal_model::{Area, JournalError, Tid};
 use journal_script::NamedBlocks;
@@ -35,7 +35,7 @@ pub struct OpenedImage {
 pub(crate) fn judge_image(
     alloc: Global,
     image: MemDevice,
-    recorded: &Record,
+    recorded: &RunRecord,
     named: &NamedBlocks,
     out: &mut impl Write,
 ) -> Result<bool, Fault>
@@ -54,7 +54,7 @@ pub(crate) fn judge_image(
 pub fn judge_opened(
     alloc: Global,
     opened: OpenedImage,
-    recorded: &Record,
+    recorded: &RunRecord,
     named: &NamedBlocks,
     out: &mut impl Write,
 ) -> Result<bool, Fault>
@@ -74,7 +74,7 @@ pub fn judge_opened(
 pub(crate) fn judge_home<D: Device>(
     alloc: Global,
     device: &mut D,
-    recorded: &Record,
+    recorded: &RunRecord,
     named: &NamedBlocks,
     n: usize,
     out: &mut impl Write,

@@ -14,7 +14,7 @@ use crate::limit::report_of;
 use crate::opening::{
     OpenedImage, judge_home, judge_opened, open_image, write_opening, write_verdict,
 };
-use crate::verdict::Record;
+use crate::verdict::RunRecord;
 use block_device::{MemDevice, StopAt};
 use journal_model::{JournalError, Tid};
 use journal_script::NamedBlocks;
@@ -39,7 +39,7 @@ pub(crate) fn judge_stopped_opening(
     image: MemDevice,
     k: u64,
     keep: &[u64],
-    recorded: &Record,
+    recorded: &RunRecord,
     named: &NamedBlocks,
     out: &mut impl Write,
 ) -> Result<bool, Fault>
@@ -106,7 +106,7 @@ fn judge_second(
     alloc: Global,
     left: MemDevice,
     first: Report,
-    recorded: &Record,
+    recorded: &RunRecord,
     named: &NamedBlocks,
     out: &mut impl Write,
 ) -> Result<bool, Fault>
@@ -126,7 +126,7 @@ pub fn judge_reopened(
     alloc: Global,
     opened: OpenedImage,
     first: Report,
-    recorded: &Record,
+    recorded: &RunRecord,
     named: &NamedBlocks,
     out: &mut impl Write,
 ) -> Result<bool, Fault>

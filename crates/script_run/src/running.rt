@@ -14,7 +14,7 @@ use crate::disk::{NEVER, RunDevice, empty_log};
 use crate::opening::judge_image;
 use crate::reopening::judge_stopped_opening;
 use crate::stops::{Stop, Stops};
-use crate::verdict::Record;
+use crate::verdict::RunRecord;
 use block_device::MemDevice;
 use journal_model::JournalError;
 use journal_script::{NamedBlocks, Operation, Script};
@@ -27,41 +27,41 @@ use std::io::Write;
 
 /// A run whose device has stopped.
 #[derive(Drop)]
-pub struct Stopped {
+pub struct StoppedRun {
     /// The device, with its cache.
     pub device: MemDevice,
     /// What the run recorded.
-    pub recorded: Record,
+    pub recorded: RunRecord,
     /// The write at which the device stopped, if before the end.
     pub at_write: Option<u64>,
 }
 
 /// The crash image of a stopped run.
 #[derive(Drop)]
-pub struct Left {
+pub struct CrashedRun {
     /// The device, with an empty cache.
     pub image: MemDevice,
     /// What the run recorded.
-    pub recorded: Record,
+    pub recorded: RunRecord,
     /// The write at which the device stopped, if before the end.
     pub at_write: Option<u64>,
 }
 
-impl Stopped {
+impl StoppedRun {
     /// Crashes the device: each block has its greatest unflushed write that `keep` names, else what was flushed last.
-    pub fn crash(self, keep: &[u64]) -> Left
+    pub fn crash(self, keep: &[u64]) -> CrashedRun
         ensures image { (a : Area) (n : ℕ) → (state_of result.image).disk a n ≡ record { reads = crashed keep.now self.device a n; others = [] } }
         ensures numbers { writes_of result.image.calls ≡ 0 }
         ensures shape { result.image.shape ≡ self.device.shape }
         ensures recorded { result.recorded ≡ self.recorded }
         ensures stop { result.at_write ≡ self.at_write }
     {
-        let Stopped {
+        let StoppedRun {
             device,
             recorded,
             at_write,
         } = self;
-        Left {
+        CrashedRun {
             image: device.crash(keep),
             recorded,
             at_write,
@@ -91,9 +91,9 @@ pub fn run(
 
 /// The crash image of a script's run, and the blocks that the script names.
 #[derive(Drop)]
-pub(crate) struct Ended {
+pub(crate) struct RunEnd {
     /// The crash image.
-    pub(crate) left: Left,
+    pub(crate) left: CrashedRun,
     /// The blocks that the script names.
     pub(crate) named: NamedBlocks,
 }
@@ -109,7 +109,7 @@ pub(crate) fn end_of_run(
     stop: Stop<'_>,
     failing_call: Option<u64>,
     out: &mut impl Write,
-) -> Result<Ended, Fault>
+) -> Result<RunEnd, Fault>
     ensures { IfOk result (λ ended. IsEndOf script.now stop.entry failing_call ended.left.image ended.left.recorded.sealed.items ended.left.recorded.acknowledged ended.named) }
 {
     let named = match script.named_blocks(alloc) {
@@ -117,7 +117,7 @@ pub(crate) fn end_of_run(
         Err(e) => return Err(Fault::Refused(JournalError::from(e))),
     };
     let stopped = run_operations(alloc, script, stop.at_write, failing_call, out)?;
-    Ok(Ended {
+    Ok(RunEnd {
         left: stopped.crash(stop.keep),
         named,
     })
@@ -135,7 +135,7 @@ pub fn run_operations<W: Write>(
     stop: Option<u64>,
     failing_call: Option<u64>,
     out: &mut W,
-) -> Result<Stopped, Fault>
+) -> Result<StoppedRun, Fault>
     ensures led { IfOk result (λ stopped. IsLedTo IsZeroHome script.now.operations.items (state_of stopped.device) stopped.recorded.sealed.items stopped.recorded.acknowledged) }
     ensures outcomes { IfOk result (λ stopped. Writes (W.contents out.old) (W.contents out.new)
         (HasRunAnew script.now stop failing_call stopped.device stopped.recorded.sealed.items stopped.recorded.acknowledged)) }
@@ -168,7 +168,7 @@ pub fn run_operations_over<H: HomeFact, W: Write>(
     after: AfterFailure,
     stop: Option<u64>,
     out: &mut W,
-) -> Result<Stopped, Fault>
+) -> Result<StoppedRun, Fault>
     requires { H.holds (run_state opened.device).shape (run_state opened.device).disk }
     ensures led { IfOk result (λ stopped. IsLedTo H.holds operations.now (state_of stopped.device) stopped.recorded.sealed.items stopped.recorded.acknowledged) }
     ensures outcomes { IfOk result (λ stopped. Writes (W.contents out.old) (W.contents out.new)
@@ -185,24 +185,24 @@ pub fn run_operations_over<H: HomeFact, W: Write>(
     }
 }
 
-fn stopped_of<H: HomeFact>(performed: Performed<RunDevice>, stop: Option<u64>) -> Stopped
+fn stopped_of<H: HomeFact>(performed: Performed<RunDevice>, stop: Option<u64>) -> StoppedRun
     ensures led { (operations : List Operation) → IsLedTo H.holds operations (run_state performed.device) performed.sealed.items performed.acknowledged
         → IsLedTo H.holds operations (state_of result.device) result.recorded.sealed.items result.recorded.acknowledged }
     ensures behind { result.device ≡ disk_behind performed.device }
     ensures recorded { result.recorded ≡ record { sealed = performed.sealed; acknowledged = performed.acknowledged } }
 {
     let device = performed.device.into_inner();
-    Stopped {
+    StoppedRun {
         at_write: if device.is_stopped() { stop } else { None },
         device: device.into_inner(),
-        recorded: Record {
+        recorded: RunRecord {
             sealed: performed.sealed,
             acknowledged: performed.acknowledged,
         },
     }
 }
 
-fn is_stopped_by(stop: Option<u64>, stopped: &Stopped) -> bool
+fn is_stopped_by(stop: Option<u64>, stopped: &StoppedRun) -> bool
     ensures { IsTrue result ↔ IsStoppedBy stop stopped.now }
 {
     match (stop, stopped.at_write) {
@@ -221,7 +221,7 @@ fn is_stopped_by(stop: Option<u64>, stopped: &Stopped) -> bool
 /// Earlier lines may have been written.
 pub fn judge(
     alloc: Global,
-    stopped: Stopped,
+    stopped: StoppedRun,
     keep: &[u64],
     named: &NamedBlocks,
     out: &mut impl Write,
@@ -243,7 +243,7 @@ pub fn judge(
 /// Those of `judge`.
 pub fn judge_left(
     alloc: Global,
-    left: Left,
+    left: CrashedRun,
     opening: Stop<'_>,
     named: &NamedBlocks,
     out: &mut impl Write,

@@ -22,14 +22,14 @@ use std::collections::BTreeMap;
 
 /// What a run recorded.
 #[derive(Debug, Drop)]
-pub struct Record {
+pub struct RunRecord {
     /// The sealed transactions, in order.
     pub sealed: Vec<Sealed>,
     /// The greatest transaction that was acknowledged.
     pub acknowledged: Option<Tid>,
 }
 
-impl Record {
+impl RunRecord {
     /// How many recorded transactions have a number below `end`.
     pub fn count_below(&self, end: u64) -> usize
         ensures { result ≡ numbered_below end self.now.sealed.items }

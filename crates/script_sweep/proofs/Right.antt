@@ -9,7 +9,7 @@ use Rattle.recovery.specs.declared.opening.Report.{Report}
 use Rattle.std.specs.BTreeSet.{keys}
 use Rattle.journal_script.specs.declared.script.NamedBlocks.{NamedBlocks}
 use Rattle.script_run.specs.declared.opening.OpenedImage.{OpenedImage}
-use Rattle.script_run.specs.declared.running.Stopped.{Stopped}
+use Rattle.script_run.specs.declared.running.StoppedRun.{StoppedRun}
 use Rattle.script_run.specs.Left.{IsCrashOf}
 use Rattle.script_run.specs.OpenedImages.{IsOpenedImage}
 use Rattle.script_run.specs.Reopening.{FollowsOn, IsStoppedAt}
@@ -19,7 +19,7 @@ use Rattle.script_run.proofs.Verdicts.{by-right}
 use Rattle.script_sweep.specs.Swept.{HasRunNamed, IsFirst}
 
 -- the opening of a stopped run's crash image is right
-pub first-right : (stopped : Stopped) (keep : List ℕ) (image : MemState) (opened : OpenedImage) (named : NamedBlocks) (right : Bool) → HasRunNamed stopped named
+pub first-right : (stopped : StoppedRun) (keep : List ℕ) (image : MemState) (opened : OpenedImage) (named : NamedBlocks) (right : Bool) → HasRunNamed stopped named
     → IsCrashOf stopped.device keep image → IsOpenedImage image.shape (state_of image).disk opened
     → All (λ b. b < opened.device.shape.home_blocks) (keys named.blocks)
     → (IsTrue right ↔ IsRight stopped.recorded.sealed.items stopped.recorded.acknowledged named (numbered_below opened.report.ends_at stopped.recorded.sealed.items) opened.device.shape.block_size (reading (state_of opened.device).disk Home))
@@ -29,7 +29,7 @@ first-right stopped keep image opened named right run crash is there verdict =
     (image-verdict stopped.recorded.sealed.items stopped.recorded.acknowledged named right image opened is there verdict)
 
 -- so is the opening of a crash image of a stopped opening
-pub again-right : (stopped : Stopped) (keep : List ℕ) (image : MemState) (first : Report) (j : ℕ) (device : MemState) (keep_again : List ℕ) (left : MemState) (opened : OpenedImage)
+pub again-right : (stopped : StoppedRun) (keep : List ℕ) (image : MemState) (first : Report) (j : ℕ) (device : MemState) (keep_again : List ℕ) (left : MemState) (opened : OpenedImage)
     (named : NamedBlocks) (right : Bool) → HasRunNamed stopped named → IsCrashOf stopped.device keep image → IsFirst image first → IsStoppedAt (state_of image) j device
     → IsCrashOf device keep_again left → IsOpenedImage left.shape (state_of left).disk opened
     → All (λ b. b < opened.device.shape.home_blocks) (keys named.blocks)

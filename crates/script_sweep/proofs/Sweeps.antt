@@ -11,16 +11,16 @@ use Rattle.journal_script.specs.Named.{AreNamedBy}
 use Rattle.script_sweep.specs.Steps.{Steps}
 use Rattle.script_sweep.specs.Steps.Steps.{NoStep, OneMore}
 use Rattle.script_run.specs.declared.opening.OpenedImage.{OpenedImage}
-use Rattle.script_run.specs.declared.running.Stopped.{Stopped}
+use Rattle.script_run.specs.declared.running.StoppedRun.{StoppedRun}
 use Rattle.script_run.specs.Left.{IsCrashOf}
 use Rattle.script_run.specs.declared.reopening.Attempt.{Attempt}
-use Rattle.script_run.specs.declared.reopening.Attempt.TheVariants.{Stopped as StoppedThere, Whole}
+use Rattle.script_run.specs.declared.reopening.Attempt.TheVariants.{Stopped, Whole}
 use Rattle.script_run.specs.OpenedImages.{IsUnopened}
 use Rattle.script_run.specs.Reopening.{IsAttempt, IsBefore, IsStoppedAt}
 use Rattle.script_sweep.specs.declared.counts.Counts.{Counts}
 use Rattle.script_sweep.specs.declared.counts.FailureCounts.{FailureCounts}
 use Rattle.script_sweep.specs.declared.counts.NotRight.{NotRight}
-use Rattle.script_sweep.specs.declared.judging.Found.{Found}
+use Rattle.script_sweep.specs.declared.judging.ImageFinding.{ImageFinding}
 use Rattle.script_sweep.specs.Places.{choices_of, kept_of}
 use Rattle.script_sweep.specs.Swept.{HasRun, HasRunNamed, IsFirst, one_more}
 use Rattle.script_sweep.specs.Sweeping.{CountsRefusal, FailsCall, FailsChoice, IsAgainVerdict, IsFailureSweep, IsFirstVerdict, IsJudged, IsJudgedAgain, IsSweep, JudgesAgain, JudgesFirst, SweepsAgain, SweepsChoice, SweepsFound, SweepsOpening, SweepsStop, capped, counted, images_of, none_wrong}
@@ -40,18 +40,18 @@ counts-verdict : (old new : NotRight) (right : Bool) → (right ≡ true → new
 counts-verdict old new true ok wrong = ok refl
 counts-verdict old new false ok wrong = wrong refl
 
-pub judges-first : {T E : Type 0} (stopped : Stopped) (named : NamedBlocks) (opened : OpenedImage) (right : Bool) (old new : NotRight) (result : Result T E) → IsFirstVerdict stopped named opened right
+pub judges-first : {T E : Type 0} (stopped : StoppedRun) (named : NamedBlocks) (opened : OpenedImage) (right : Bool) (old new : NotRight) (result : Result T E) → IsFirstVerdict stopped named opened right
     → (right ≡ true → new ≡ old) → (right ≡ false → new ≡ record old { wrong = one_more old.wrong }) → OnOk result (JudgesFirst stopped named opened old new)
 judges-first stopped named opened right old new (Ok x) verdict ok wrong = record { right = right; verdict = verdict; after = counts-verdict old new right ok wrong }
 judges-first stopped named opened right old new (Err e) verdict ok wrong = search rules
 
-pub judges-again : {T E : Type 0} (stopped : Stopped) (named : NamedBlocks) (first : Report) (opened : OpenedImage) (right : Bool) (old new : NotRight) (result : Result T E) → IsAgainVerdict stopped named first opened right
+pub judges-again : {T E : Type 0} (stopped : StoppedRun) (named : NamedBlocks) (first : Report) (opened : OpenedImage) (right : Bool) (old new : NotRight) (result : Result T E) → IsAgainVerdict stopped named first opened right
     → (right ≡ true → new ≡ old) → (right ≡ false → new ≡ record old { wrong = one_more old.wrong }) → OnOk result (JudgesAgain stopped named first opened old new)
 judges-again stopped named first opened right old new (Ok x) verdict ok wrong = record { right = right; verdict = verdict; after = counts-verdict old new right ok wrong }
 judges-again stopped named first opened right old new (Err e) verdict ok wrong = search rules
 
 -- an opening of a copy of the image stopped
-pub stops-there : (keeps : Type 0) (image copy : MemState) (j : ℕ) (attempt : Attempt) (device : MemState) → copy ≡ image → attempt ≡ StoppedThere device
+pub stops-there : (keeps : Type 0) (image copy : MemState) (j : ℕ) (attempt : Attempt) (device : MemState) → copy ≡ image → attempt ≡ Stopped device
     → (keeps → IsAttempt (state_of copy) j attempt) → keeps → IsStoppedAt (state_of image) j device
 stops-there keeps image copy j attempt device same is of holds =
     subst (λ (m : MemState). IsStoppedAt (state_of m) j device) same (subst (λ (a : Attempt). IsAttempt (state_of copy) j a) is (of holds))
@@ -71,7 +71,7 @@ steps-keep R P keeps n s u (OneMore m x t y before step) holds = keeps m t y ste
 right-counts : (old new : NotRight) (right : Bool) → right ≡ true → new ≡ counted right old → old ≡ none_wrong → new ≡ none_wrong
 right-counts old new right is after none = after ∙ ap (λ (r : Bool). counted r old) is ∙ none
 
-module _ (keeps : Type 0) (holds : keeps) (stopped : Stopped) (named : NamedBlocks) (run : HasRunNamed stopped named) where
+module _ (keeps : Type 0) (holds : keeps) (stopped : StoppedRun) (named : NamedBlocks) (run : HasRunNamed stopped named) where
   -- no refusal of a crash image of the run is counted
   first-opens : (keep : List ℕ) (image : MemState) (e : JournalError) (old new : NotRight) → IsCrashOf stopped.device keep image
       → (keeps → IsUnopened image.shape (reading (state_of image).disk) e) → CountsRefusal stopped e old new → ⊥
@@ -79,7 +79,7 @@ module _ (keeps : Type 0) (holds : keeps) (stopped : Stopped) (named : NamedBloc
       crash-unrefused run.operations stopped.device keep stopped.recorded.sealed.items stopped.recorded.acknowledged image e run.run crash (why holds) counts.device counts.memory counts.numbers
 
   -- no verdict on one is false
-  first-keeps : (keep : List ℕ) (image : MemState) (old : NotRight) (found : Option Found) (new : NotRight) → IsCrashOf stopped.device keep image
+  first-keeps : (keep : List ℕ) (image : MemState) (old : NotRight) (found : Option ImageFinding) (new : NotRight) → IsCrashOf stopped.device keep image
       → IsJudged keeps stopped named image old found new → old ≡ none_wrong → new ≡ none_wrong
   first-keeps keep image old found new crash (IsOpened opened after is judged) none =
       right-counts old after judged.right (first-right stopped keep image opened named judged.right run crash (is holds) judged.verdict.0 judged.verdict.1) judged.after none
@@ -109,7 +109,7 @@ module _ (keeps : Type 0) (holds : keeps) (stopped : Stopped) (named : NamedBloc
   opening-keeps keep image first j old new crash tells (EndsBefore opened is same) none = ap (λ (c : Counts). c.not_right) same ∙ none
   opening-keeps keep image first j old new crash tells (RefusesBefore e judged why counts is) none = absurd (first-opens keep image e old.not_right judged crash why counts)
 
-  openings-keep : (keep : List ℕ) (image : MemState) (from : NotRight) (found : Option Found) (judged : NotRight) (old new : Counts) → IsCrashOf stopped.device keep image
+  openings-keep : (keep : List ℕ) (image : MemState) (from : NotRight) (found : Option ImageFinding) (judged : NotRight) (old new : Counts) → IsCrashOf stopped.device keep image
       → IsJudged keeps stopped named image from found judged → SweepsFound keeps stopped named image found old new → old.not_right ≡ none_wrong → new.not_right ≡ none_wrong
   openings-keep keep image from found judged old new crash (IsOpened opened after is by) openings none =
       steps-keep (λ i. SweepsOpening keeps stopped named image opened.report (i + 1)) (λ c. c.not_right ≡ none_wrong)
@@ -126,7 +126,7 @@ module _ (keeps : Type 0) (holds : keeps) (stopped : Stopped) (named : NamedBloc
   fails-keeps choice old new one none = first-keeps (kept_of (writes_of stopped.device.calls) choice) one.image old one.found new one.crash one.is_judged none
 
 -- a run of a script that names these blocks
-run-named : (script : Script) (named : NamedBlocks) (stop fail : Option ℕ) (stopped : Stopped) → AreNamedBy script named → HasRun script stop fail stopped → HasRunNamed stopped named
+run-named : (script : Script) (named : NamedBlocks) (stop fail : Option ℕ) (stopped : StoppedRun) → AreNamedBy script named → HasRun script stop fail stopped → HasRunNamed stopped named
 run-named script named stop fail stopped names run = record { operations = script.operations.items; run = run.led; directs = names.directs }
 
 -- no verdict of a sweep is false, and no opening is refused
@@ -149,7 +149,7 @@ failures-right keeps script counts sweep holds =
     counts.calls none_wrong counts.not_right sweep.calls refl
 
 -- counts that no verdict and no stopped opening changes
-module _ (f : Counts → ℕ) (still : (c : Counts) (again : ℕ) (n : NotRight) → f (record c { again = again; not_right = n }) ≡ f c) (keeps : Type 0) (stopped : Stopped) (named : NamedBlocks) (image : MemState) where
+module _ (f : Counts → ℕ) (still : (c : Counts) (again : ℕ) (n : NotRight) → f (record c { again = again; not_right = n }) ≡ f c) (keeps : Type 0) (stopped : StoppedRun) (named : NamedBlocks) (image : MemState) where
   opening-still : (first : Report) (j n : ℕ) (old new : Counts) → SweepsOpening keeps stopped named image first j old new → f old ≡ n → f new ≡ n
   opening-still first j n old new (StopsThere device stop again) is =
       steps-keep (SweepsAgain keeps stopped named first j device) (λ c. f c ≡ n)
@@ -157,13 +157,13 @@ module _ (f : Counts → ℕ) (still : (c : Counts) (again : ℕ) (n : NotRight)
   opening-still first j n old new (EndsBefore opened ends same) is = ap f same ∙ is
   opening-still first j n old new (RefusesBefore e judged why counts after) is = ap f after ∙ still old old.again judged ∙ is
 
-  pub found-still : (n : ℕ) (found : Option Found) (old new : Counts) → SweepsFound keeps stopped named image found old new → f old ≡ n → f new ≡ n
+  pub found-still : (n : ℕ) (found : Option ImageFinding) (old new : Counts) → SweepsFound keeps stopped named image found old new → f old ≡ n → f new ≡ n
   found-still n None old new same is = ap f same ∙ is
   found-still n (Some found) old new steps is =
       steps-keep (λ i. SweepsOpening keeps stopped named image found.report (i + 1)) (λ c. f c ≡ n)
       (λ i s t step so_far. opening-still found.report (i + 1) n s t step so_far) found.writes old new steps is
 
-found-images : (keeps : Type 0) (stopped : Stopped) (named : NamedBlocks) (image : MemState) (n : ℕ) (found : Option Found) (old new : Counts)
+found-images : (keeps : Type 0) (stopped : StoppedRun) (named : NamedBlocks) (image : MemState) (n : ℕ) (found : Option ImageFinding) (old new : Counts)
     → SweepsFound keeps stopped named image found old new → old.images ≡ n → new.images ≡ n
 found-images keeps stopped named image n found old new steps is = found-still (λ (c : Counts). c.images) (λ c again n. refl) keeps stopped named image n found old new steps is
 
@@ -184,7 +184,7 @@ capped-one : (n : ℕ) → one_more (capped n) ≡ capped (n + 1)
 capped-one n = omega arith
 
 -- each choice counts one image
-choices-images : (keeps : Type 0) (stopped : Stopped) (named : NamedBlocks) (k m n : ℕ) (old new : Counts) → Steps (SweepsChoice keeps stopped named k) n old new
+choices-images : (keeps : Type 0) (stopped : StoppedRun) (named : NamedBlocks) (k m n : ℕ) (old new : Counts) → Steps (SweepsChoice keeps stopped named k) n old new
     → old.images ≡ capped m → new.images ≡ capped (m + n)
 choices-images keeps stopped named k m n old new (NoStep x) is = is ∙ ap capped (omega arith)
 choices-images keeps stopped named k m n old new (OneMore l x t y before step) is =

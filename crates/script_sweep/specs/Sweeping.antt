@@ -13,7 +13,7 @@ use Rattle.journal_script.specs.declared.script.Script.{Script}
 use Rattle.journal_script.specs.Named.{AreNamedBy}
 use Rattle.script_sweep.specs.Steps.{Steps}
 use Rattle.script_run.specs.declared.opening.OpenedImage.{OpenedImage}
-use Rattle.script_run.specs.declared.running.Stopped.{Stopped}
+use Rattle.script_run.specs.declared.running.StoppedRun.{StoppedRun}
 use Rattle.script_run.specs.Left.{IsCrashOf}
 use Rattle.script_run.specs.Numbers.{HasNumbersLeft}
 use Rattle.script_run.specs.OpenedImages.{IsOpenedImage, IsUnopened}
@@ -22,7 +22,7 @@ use Rattle.script_run.specs.Verdict.{IsRight}
 use Rattle.script_sweep.specs.declared.counts.Counts.{Counts}
 use Rattle.script_sweep.specs.declared.counts.FailureCounts.{FailureCounts}
 use Rattle.script_sweep.specs.declared.counts.NotRight.{NotRight}
-use Rattle.script_sweep.specs.declared.judging.Found.{Found}
+use Rattle.script_sweep.specs.declared.judging.ImageFinding.{ImageFinding}
 use Rattle.script_sweep.specs.Places.{choices_of, kept_of}
 use Rattle.script_sweep.specs.Swept.{HasRun, MakesCalls, one_more}
 
@@ -37,7 +37,7 @@ with_refusal n = record n { refused = one_more n.refused }
 
 -- A counted refusal is of the image's contents: memory and the device did not fail, and the run had numbers left. (Any other ends the
 -- sweep.)
-pub record CountsRefusal (stopped : Stopped) (e : JournalError) (old new : NotRight) : Type 0 where
+pub record CountsRefusal (stopped : StoppedRun) (e : JournalError) (old new : NotRight) : Type 0 where
   pub device : e ≢ Device
   pub memory : e ≢ Memory
   pub numbers : e ≡ SequenceEnd → HasNumbersLeft stopped.recorded.sealed.items
@@ -55,14 +55,14 @@ abbrev pub none_wrong : NotRight
 none_wrong = record { wrong = 0; refused = 0 }
 
 -- the verdict on an opening of a run's crash image
-abbrev pub IsFirstVerdict : Stopped → NamedBlocks → OpenedImage → Bool → Type 0
+abbrev pub IsFirstVerdict : StoppedRun → NamedBlocks → OpenedImage → Bool → Type 0
 IsFirstVerdict stopped named opened right =
     All (λ b. b < opened.device.shape.home_blocks) (keys named.blocks)
     × (IsTrue right ↔ IsRight stopped.recorded.sealed.items stopped.recorded.acknowledged named (numbered_below opened.report.ends_at stopped.recorded.sealed.items)
     opened.device.shape.block_size (reading (state_of opened.device).disk Home))
 
 -- the verdict on an opening of the crash image of a stopped opening; `first` is what the first image's log held
-abbrev pub IsAgainVerdict : Stopped → NamedBlocks → Report → OpenedImage → Bool → Type 0
+abbrev pub IsAgainVerdict : StoppedRun → NamedBlocks → Report → OpenedImage → Bool → Type 0
 IsAgainVerdict stopped named first opened right =
     All (λ b. b < opened.device.shape.home_blocks) (keys named.blocks)
     × (IsTrue right ↔ FollowsOn first.clean first.ends_at opened.report.clean opened.report.ends_at
@@ -70,36 +70,36 @@ IsAgainVerdict stopped named first opened right =
     opened.device.shape.block_size (reading (state_of opened.device).disk Home))
 
 -- what an opening found, and how many writes it made
-abbrev pub found_by : OpenedImage → Found
+abbrev pub found_by : OpenedImage → ImageFinding
 found_by opened = record { report = opened.report; writes = writes_of opened.device.calls }
 
 -- the verdict on this opening is counted
-pub record JudgesFirst (stopped : Stopped) (named : NamedBlocks) (opened : OpenedImage) (old new : NotRight) : Type 0 where
+pub record JudgesFirst (stopped : StoppedRun) (named : NamedBlocks) (opened : OpenedImage) (old new : NotRight) : Type 0 where
   pub right : Bool
   pub verdict : IsFirstVerdict stopped named opened right
   pub after : new ≡ counted right old
 
 -- a crash image of a run was opened and judged, or its contents were refused; either is counted
-pub data IsJudged (keeps : Type 0) (stopped : Stopped) (named : NamedBlocks) (image : MemState) (old : NotRight) : Option Found → NotRight → Type 0 where
+pub data IsJudged (keeps : Type 0) (stopped : StoppedRun) (named : NamedBlocks) (image : MemState) (old : NotRight) : Option ImageFinding → NotRight → Type 0 where
   IsOpened : (opened : OpenedImage) (new : NotRight) → (keeps → IsOpenedImage image.shape (state_of image).disk opened) → JudgesFirst stopped named opened old new →
       IsJudged keeps stopped named image old (Some (found_by opened)) new
   IsRefused : (e : JournalError) (new : NotRight) → (keeps → IsUnopened image.shape (reading (state_of image).disk) e) → CountsRefusal stopped e old new →
       IsJudged keeps stopped named image old None new
 
-pub record JudgesAgain (stopped : Stopped) (named : NamedBlocks) (first : Report) (opened : OpenedImage) (old new : NotRight) : Type 0 where
+pub record JudgesAgain (stopped : StoppedRun) (named : NamedBlocks) (first : Report) (opened : OpenedImage) (old new : NotRight) : Type 0 where
   pub right : Bool
   pub verdict : IsAgainVerdict stopped named first opened right
   pub after : new ≡ counted right old
 
 -- a crash image of a stopped opening was opened and judged, or its contents were refused
-pub data IsJudgedAgain (keeps : Type 0) (stopped : Stopped) (named : NamedBlocks) (first : Report) (image : MemState) (old : NotRight) : NotRight → Type 0 where
+pub data IsJudgedAgain (keeps : Type 0) (stopped : StoppedRun) (named : NamedBlocks) (first : Report) (image : MemState) (old : NotRight) : NotRight → Type 0 where
   IsOpenedAgain : (opened : OpenedImage) (new : NotRight) → (keeps → IsOpenedImage image.shape (state_of image).disk opened) → JudgesAgain stopped named first opened old new →
       IsJudgedAgain keeps stopped named first image old new
   IsRefusedAgain : (e : JournalError) (new : NotRight) → (keeps → IsUnopened image.shape (reading (state_of image).disk) e) → CountsRefusal stopped e old new →
       IsJudgedAgain keeps stopped named first image old new
 
 -- the crash image of an opening that stopped at write `j`, by this choice of its last writes, was opened and judged
-pub record SweepsAgain (keeps : Type 0) (stopped : Stopped) (named : NamedBlocks) (first : Report) (j : ℕ) (device : MemState) (choice : ℕ) (old new : Counts) : Type 0 where
+pub record SweepsAgain (keeps : Type 0) (stopped : StoppedRun) (named : NamedBlocks) (first : Report) (j : ℕ) (device : MemState) (choice : ℕ) (old new : Counts) : Type 0 where
   pub image : MemState
   pub crash : IsCrashOf device (kept_of j choice) image
   pub judged : NotRight
@@ -108,7 +108,7 @@ pub record SweepsAgain (keeps : Type 0) (stopped : Stopped) (named : NamedBlocks
 
 -- an opening was stopped at its write `j`, and each choice of its crash image judged; or it was refused before. (It ends before only if
 -- another opening of the image made more writes.)
-pub data SweepsOpening (keeps : Type 0) (stopped : Stopped) (named : NamedBlocks) (image : MemState) (first : Report) (j : ℕ) (old new : Counts) : Type 0 where
+pub data SweepsOpening (keeps : Type 0) (stopped : StoppedRun) (named : NamedBlocks) (image : MemState) (first : Report) (j : ℕ) (old new : Counts) : Type 0 where
   StopsThere : (device : MemState) → (keeps → IsStoppedAt (state_of image) j device) → Steps (SweepsAgain keeps stopped named first j device) (choices_of j) old new →
       SweepsOpening keeps stopped named image first j old new
   EndsBefore : (opened : OpenedImage) → (keeps → IsBefore (state_of image) j opened.device) → new ≡ old → SweepsOpening keeps stopped named image first j old new
@@ -116,26 +116,26 @@ pub data SweepsOpening (keeps : Type 0) (stopped : Stopped) (named : NamedBlocks
       new ≡ record old { not_right = judged } → SweepsOpening keeps stopped named image first j old new
 
 -- the opening of the image was stopped at each of its writes
-abbrev pub SweepsFound : (keeps : Type 0) → Stopped → NamedBlocks → MemState → Option Found → Counts → Counts → Type 0
+abbrev pub SweepsFound : (keeps : Type 0) → StoppedRun → NamedBlocks → MemState → Option ImageFinding → Counts → Counts → Type 0
 SweepsFound keeps stopped named image None old new = new ≡ old
 SweepsFound keeps stopped named image (Some found) old new = Steps (λ i. SweepsOpening keeps stopped named image found.report (i + 1)) found.writes old new
 
 -- an image was opened and judged, and so were the crash images of its stopped openings
-pub record SweepsImage (keeps : Type 0) (stopped : Stopped) (named : NamedBlocks) (image : MemState) (old new : Counts) : Type 0 where
-  pub found : Option Found
+pub record SweepsImage (keeps : Type 0) (stopped : StoppedRun) (named : NamedBlocks) (image : MemState) (old new : Counts) : Type 0 where
+  pub found : Option ImageFinding
   pub judged : NotRight
   pub is_judged : IsJudged keeps stopped named image old.not_right found judged
   pub openings : SweepsFound keeps stopped named image found (record old { not_right = judged }) new
 
 -- the same for the crash image of a run that stopped at write `k`, by this choice of its last writes
-pub record SweepsChoice (keeps : Type 0) (stopped : Stopped) (named : NamedBlocks) (k choice : ℕ) (old new : Counts) : Type 0 where
+pub record SweepsChoice (keeps : Type 0) (stopped : StoppedRun) (named : NamedBlocks) (k choice : ℕ) (old new : Counts) : Type 0 where
   pub image : MemState
   pub crash : IsCrashOf stopped.device (kept_of k choice) image
   pub sweeps : SweepsImage keeps stopped named image (record old { images = one_more old.images }) new
 
 -- a script was run with a stop at write `k`, and each choice of its crash image was swept
 pub record SweepsStop (keeps : Type 0) (script : Script) (named : NamedBlocks) (k : ℕ) (old new : Counts) : Type 0 where
-  pub stopped : Stopped
+  pub stopped : StoppedRun
   pub run : keeps → HasRun script (Some k) None stopped
   pub choices : Steps (SweepsChoice keeps stopped named k) (choices_of k) old new
 
@@ -143,7 +143,7 @@ pub record SweepsStop (keeps : Type 0) (script : Script) (named : NamedBlocks) (
 pub record IsSweep (keeps : Type 0) (script : Script) (counts : Counts) : Type 0 where
   pub named : NamedBlocks
   pub names : AreNamedBy script named
-  pub whole : Stopped
+  pub whole : StoppedRun
   pub run : keeps → HasRun script None None whole
   pub writes : counts.writes ≡ writes_of whole.device.calls
   pub stops : Steps (λ i. SweepsStop keeps script named (i + 1)) counts.writes (record { writes = counts.writes; images = 0; again = 0; not_right = none_wrong }) counts
@@ -154,15 +154,15 @@ images_of zero = 0
 images_of (suc n) = images_of n + choices_of (suc n)
 
 -- the crash image of a run, by this choice of its last writes, was opened and judged
-pub record FailsChoice (keeps : Type 0) (stopped : Stopped) (named : NamedBlocks) (choice : ℕ) (old new : NotRight) : Type 0 where
+pub record FailsChoice (keeps : Type 0) (stopped : StoppedRun) (named : NamedBlocks) (choice : ℕ) (old new : NotRight) : Type 0 where
   pub image : MemState
   pub crash : IsCrashOf stopped.device (kept_of (writes_of stopped.device.calls) choice) image
-  pub found : Option Found
+  pub found : Option ImageFinding
   pub is_judged : IsJudged keeps stopped named image old found new
 
 -- a script was run with a failure of call `k`, and each choice of its crash image was judged
 pub record FailsCall (keeps : Type 0) (script : Script) (named : NamedBlocks) (k : ℕ) (old new : NotRight) : Type 0 where
-  pub stopped : Stopped
+  pub stopped : StoppedRun
   pub run : keeps → HasRun script None (Some k) stopped
   pub choices : Steps (FailsChoice keeps stopped named) (choices_of (writes_of stopped.device.calls)) old new
 

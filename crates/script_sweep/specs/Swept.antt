@@ -17,19 +17,19 @@ use Rattle.journal_script.specs.Named.{HasDirects}
 use Rattle.script_client.specs.declared.performing.AfterFailure.TheVariants.{End}
 use Rattle.script_client.specs.Outcomes.{HasPerformed}
 use Rattle.script_client.specs.Told.{IsLedTo, IsZeroHome}
-use Rattle.script_run.specs.declared.running.Stopped.{Stopped}
+use Rattle.script_run.specs.declared.running.StoppedRun.{StoppedRun}
 use Rattle.script_run.specs.Disks.{IsOpenedAnew, run_state}
 use Rattle.script_run.specs.Left.{HasRunAnew, IsStoppedBy}
 
 -- a script was run over a device that stops at write `stop` and fails call `fail`, if named, and the run ended there
-pub record HasRun (script : Script) (stop fail : Option ℕ) (stopped : Stopped) : Type 0 where
+pub record HasRun (script : Script) (stop fail : Option ℕ) (stopped : StoppedRun) : Type 0 where
   pub led : IsLedTo IsZeroHome script.operations.items (state_of stopped.device) stopped.recorded.sealed.items stopped.recorded.acknowledged
   pub lines : List ℕ
   pub outcomes : HasRunAnew script stop fail stopped.device stopped.recorded.sealed.items stopped.recorded.acknowledged lines
   pub stops : IsStoppedBy stop stopped
 
 -- operations were run whose direct writes are exactly those of `named`
-pub record HasRunNamed (stopped : Stopped) (named : NamedBlocks) : Type 0 where
+pub record HasRunNamed (stopped : StoppedRun) (named : NamedBlocks) : Type 0 where
   pub operations : List Operation
   pub run : IsLedTo IsZeroHome operations (state_of stopped.device) stopped.recorded.sealed.items stopped.recorded.acknowledged
   pub directs : HasDirects operations (keys named.directs)

@@ -7,7 +7,7 @@ ghost use Rattle.script_sweep.specs.Sweeping.{FailsCall, FailsChoice, IsFailureS
 
 use crate::counts::{FailureCounts, NotRight};
 use crate::judging::{Ran, left_by, named_blocks};
-use crate::place::{Event, Place, choices};
+use crate::place::{Event, SweepPlace, choices};
 use crate::swept::Swept;
 use jbench_words::watch::{Watch, WatchStep};
 use journal_script::{NamedBlocks, Script};
@@ -97,7 +97,7 @@ impl<J: Swept> Ran<'_, J> {
     {
         let device = &self.stopped.device;
         let (image, keep) = left_by(self.alloc, device, device.writes(), bits)?;
-        let place = Place {
+        let place = SweepPlace {
             event: Event::Failure(k),
             keep: &keep,
         };

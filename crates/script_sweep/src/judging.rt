@@ -9,13 +9,13 @@ ghost use Rattle.script_sweep.specs.Sweeping.{CountsRefusal, IsJudged, JudgesFir
 ghost use Rattle.script_sweep.specs.Swept.{one_more};
 
 use crate::counts::NotRight;
-use crate::place::{Place, choice};
+use crate::place::{SweepPlace, choice};
 use crate::swept::Swept;
 use block_device::MemDevice;
 use journal_model::JournalError;
 use journal_script::{NamedBlocks, Script};
 use recovery::Report;
-use script_run::{Fault, OpenedImage, Stopped, judge_opened};
+use script_run::{Fault, OpenedImage, StoppedRun, judge_opened};
 use std::alloc::Global;
 use std::io;
 use std::io::Write;
@@ -26,14 +26,14 @@ pub(crate) struct Ran<'a, J> {
     pub(crate) alloc: Global,
     pub(crate) journal: &'a J,
     /// The stopped run.
-    pub(crate) stopped: &'a Stopped,
+    pub(crate) stopped: &'a StoppedRun,
     /// The blocks that the script names.
     pub(crate) named: &'a NamedBlocks,
 }
 
 /// What an opening of an image found, and how many writes it made.
 #[derive(Clone, Copy)]
-pub(crate) struct Found {
+pub(crate) struct ImageFinding {
     pub(crate) report: Report,
     pub(crate) writes: u64,
 }
@@ -46,16 +46,16 @@ impl<J: Swept> Ran<'_, J> {
     /// `Fault::Refused`: memory ran out, or a refusal is not of the image's contents. `Fault::Output`: `err` can't be written.
     pub(crate) fn judge_image<E: Write>(
         &self,
-        place: Place<'_>,
+        place: SweepPlace<'_>,
         image: &MemDevice,
         not_right: &mut NotRight,
         err: &mut E,
-    ) -> Result<Option<Found>, Fault>
+    ) -> Result<Option<ImageFinding>, Fault>
         ensures { IfOk result (λ found. IsJudged J.keeps self.now.stopped.now self.now.named.now image.now not_right.old found not_right.new) }
     {
         match self.journal.open(self.alloc, copy_of(image)?) {
             Ok(opened) => {
-                let found = Found {
+                let found = ImageFinding {
                     report: opened.report,
                     writes: opened.device.writes(),
                 };
@@ -71,7 +71,7 @@ impl<J: Swept> Ran<'_, J> {
 
     fn judge_first<E: Write>(
         &self,
-        place: Place<'_>,
+        place: SweepPlace<'_>,
         opened: OpenedImage,
         not_right: &mut NotRight,
         err: &mut E,
@@ -87,8 +87,8 @@ impl<J: Swept> Ran<'_, J> {
     /// Counts and prints a false verdict; `lines` have what the opening found.
     pub(crate) fn note_verdict<E: Write>(
         &self,
-        place: Place<'_>,
-        again: Option<Place<'_>>,
+        place: SweepPlace<'_>,
+        again: Option<SweepPlace<'_>>,
         right: bool,
         lines: &[u8],
         not_right: &mut NotRight,
@@ -109,8 +109,8 @@ impl<J: Swept> Ran<'_, J> {
     /// Counts and prints a refused image. Fails if the refusal is not of the image's contents.
     pub(crate) fn note_refusal<E: Write>(
         &self,
-        place: Place<'_>,
-        again: Option<Place<'_>>,
+        place: SweepPlace<'_>,
+        again: Option<SweepPlace<'_>>,
         e: JournalError,
         not_right: &mut NotRight,
         err: &mut E,
@@ -141,8 +141,8 @@ impl<J: Swept> Ran<'_, J> {
 
     fn name<E: Write>(
         &self,
-        place: Place<'_>,
-        again: Option<Place<'_>>,
+        place: SweepPlace<'_>,
+        again: Option<SweepPlace<'_>>,
         err: &mut E,
     ) -> io::Result<()> {
         write!(err, "not right:{place}")?;

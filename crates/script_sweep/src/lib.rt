@@ -14,6 +14,6 @@ mod swept;
 pub use calls::calls_of_run;
 pub use counts::{Counts, FailureCounts, NotRight};
 pub use failing::sweep_failures;
-pub use script_run::{Attempt, Fault, OpenedImage, Stopped};
+pub use script_run::{Attempt, Fault, OpenedImage, StoppedRun};
 pub use sweeping::sweep;
 pub use swept::{Swept, ThisJournal};

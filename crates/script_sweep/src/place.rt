@@ -32,14 +32,14 @@ impl Event {
 
 /// A stop or a failure, and the unflushed writes that the device kept, displayed as the options of `run` that show it.
 #[derive(Clone, Copy)]
-pub struct Place<'a> {
+pub struct SweepPlace<'a> {
     /// The stop or failure.
     pub event: Event,
     /// The writes that were kept.
     pub keep: &'a [u64],
 }
 
-impl fmt::Display for Place<'_> {
+impl fmt::Display for SweepPlace<'_> {
     fn fmt<W: fmt::Write>(&self, f: &mut fmt::Formatter<W>) -> fmt::Result {
         let (option, number, keep) = self.event.options();
         write!(f, " --{option} {number}")?;

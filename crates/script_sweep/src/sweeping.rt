@@ -5,8 +5,8 @@ ghost use Rattle.script_sweep.specs.Places.{choices_of};
 ghost use Rattle.script_sweep.specs.Sweeping.{IsSweep, JudgesAgain, SweepsAgain, SweepsChoice, SweepsFound, SweepsImage, SweepsOpening, SweepsStop, capped, images_of, none_wrong};
 
 use crate::counts::{Counts, NotRight};
-use crate::judging::{Found, Ran, copy_of, left_by, named_blocks};
-use crate::place::{Event, Place, choices};
+use crate::judging::{ImageFinding, Ran, copy_of, left_by, named_blocks};
+use crate::place::{Event, SweepPlace, choices};
 use crate::swept::Swept;
 use block_device::MemDevice;
 use jbench_words::watch::{Watch, WatchStep};
@@ -73,7 +73,7 @@ fn sweep_stops<J: Swept>(
 /// Where a run stopped, and what the opening of its crash image found.
 #[derive(Clone, Copy)]
 struct First<'a> {
-    place: Place<'a>,
+    place: SweepPlace<'a>,
     report: Report,
 }
 
@@ -99,7 +99,7 @@ impl<J: Swept> Ran<'_, J> {
     {
         let (image, keep) = left_by(self.alloc, &self.stopped.device, k, bits)?;
         counts.images = counts.images.saturating_add(1);
-        let place = Place {
+        let place = SweepPlace {
             event: Event::Stop(k),
             keep: &keep,
         };
@@ -108,7 +108,7 @@ impl<J: Swept> Ran<'_, J> {
 
     fn sweep_image<E: Write>(
         &self,
-        place: Place<'_>,
+        place: SweepPlace<'_>,
         image: &MemDevice,
         counts: &mut Counts,
         err: &mut E,
@@ -123,9 +123,9 @@ impl<J: Swept> Ran<'_, J> {
 
     fn sweep_openings<E: Write>(
         &self,
-        place: Place<'_>,
+        place: SweepPlace<'_>,
         image: &MemDevice,
-        found: Found,
+        found: ImageFinding,
         counts: &mut Counts,
         err: &mut E,
     ) -> Result<(), Fault>
@@ -192,7 +192,7 @@ impl<J: Swept> Ran<'_, J> {
     {
         let (left, keep) = left_by(self.alloc, device, j, bits)?;
         counts.again = counts.again.saturating_add(1);
-        let again = Place {
+        let again = SweepPlace {
             event: Event::StopOfOpening(j),
             keep: &keep,
         };
@@ -205,7 +205,7 @@ impl<J: Swept> Ran<'_, J> {
     fn judge_again<E: Write>(
         &self,
         first: First<'_>,
-        again: Place<'_>,
+        again: SweepPlace<'_>,
         opened: OpenedImage,
         not_right: &mut NotRight,
         err: &mut E,

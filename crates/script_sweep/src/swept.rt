@@ -10,7 +10,7 @@ use crate::calls::calls_of_run;
 use block_device::MemDevice;
 use journal_model::JournalError;
 use journal_script::Script;
-use script_run::{Attempt, Fault, OpenedImage, Stopped, open_image, open_to, run_operations};
+use script_run::{Attempt, Fault, OpenedImage, StoppedRun, open_image, open_to, run_operations};
 use std::alloc::Global;
 use std::io;
 
@@ -31,7 +31,7 @@ pub trait Swept {
         script: &Script,
         stop: Option<u64>,
         failing_call: Option<u64>,
-    ) -> Result<Stopped, Fault>
+    ) -> Result<StoppedRun, Fault>
         ensures { IfOk result (λ stopped. keeps → HasRun script.now stop failing_call stopped) };
 
     /// How many device calls (reads, writes and flushes) a run of a script makes after the first opening, if none fails.
@@ -74,7 +74,7 @@ impl Swept for ThisJournal {
         script: &Script,
         stop: Option<u64>,
         failing_call: Option<u64>,
-    ) -> Result<Stopped, Fault> {
+    ) -> Result<StoppedRun, Fault> {
         run_operations(alloc, script, stop, failing_call, &mut io::sink())
     }
 

@@ -1,12 +1,12 @@
 //! The command `threads`: reads a script of clients, runs them in threads, and prints the verdicts.
 ghost use Rattle.std.specs.Prelude.{◌≡◌, IfOk};
-ghost use Rattle.jbench_words.specs.declared.fault.Status.TheVariants.{Fine, Refused, VerdictFalse};
+ghost use Rattle.jbench_words.specs.declared.fault.CommandStatus.TheVariants.{Fine, Refused, VerdictFalse};
 ghost use Rattle.script_threads.specs.Runs.{HasFoundFalse, HasRunRight, HasRunWrong, HasServed};
 ghost use Rattle.script_threads.specs.Verdicts.{AreAllTrue};
 
 use crate::running::{Ended, RefusedClient, run};
 use crate::verdicts::Verdicts;
-use jbench_words::fault::{self, Fault, Status};
+use jbench_words::fault::{self, CommandStatus, Fault};
 use journal_script::{ClientScript, ScriptError, read_clients};
 use std::alloc::Global;
 use std::io;
@@ -28,7 +28,7 @@ pub fn threads<T: Threads + Wait + Sync, W: Write + Drop, E: Write + Drop>(
     text: &[u8],
     out: W,
     err: E,
-) -> io::Result<Status>
+) -> io::Result<CommandStatus>
     ensures done { IfOk result (λ status. status ≡ Fine → HasServed text.now) }
     ensures wrong { IfOk result (λ status. status ≡ VerdictFalse → HasFoundFalse text.now) }
 {
@@ -37,7 +37,7 @@ pub fn threads<T: Threads + Wait + Sync, W: Write + Drop, E: Write + Drop>(
         Ok(script) => serve_script(rt, alloc, path, &script, out, err),
         Err(ScriptError::BadScript(bad)) => {
             writeln!(err, "jbench: bad script\n  {bad}")?;
-            Ok(Status::Refused)
+            Ok(CommandStatus::Refused)
         }
         Err(ScriptError::Memory) => {
             fault::refuse(&mut err, path, &Fault::from(ScriptError::Memory))
@@ -53,7 +53,7 @@ fn serve_script<T: Threads + Wait + Sync, W: Write + Drop, E: Write + Drop>(
     script: &ClientScript,
     out: W,
     err: E,
-) -> io::Result<Status>
+) -> io::Result<CommandStatus>
     ensures done { IfOk result (λ status. status ≡ Fine → HasRunRight script.now) }
     ensures wrong { IfOk result (λ status. status ≡ VerdictFalse → HasRunWrong script.now) }
 {
@@ -66,7 +66,7 @@ fn serve_script<T: Threads + Wait + Sync, W: Write + Drop, E: Write + Drop>(
 }
 
 /// Prints each refused client, and its refusal.
-fn print_refused<E: Write + Drop>(clients: &[RefusedClient], err: E) -> io::Result<Status>
+fn print_refused<E: Write + Drop>(clients: &[RefusedClient], err: E) -> io::Result<CommandStatus>
     ensures { IfOk result (λ status. status ≡ Refused) }
 {
     let mut err = err;
@@ -80,7 +80,7 @@ fn print_refused<E: Write + Drop>(clients: &[RefusedClient], err: E) -> io::Resu
             why.name()
         )?;
     }
-    Ok(Status::Refused)
+    Ok(CommandStatus::Refused)
 }
 
 /// Prints the counts and the verdicts.
@@ -88,7 +88,7 @@ fn print_verdicts<W: Write + Drop>(
     script: &ClientScript,
     verdicts: &Verdicts,
     out: W,
-) -> io::Result<Status>
+) -> io::Result<CommandStatus>
     ensures fine { IfOk result (λ status. status ≡ Fine → AreAllTrue verdicts.now) }
     ensures wrong { IfOk result (λ status. status ≡ VerdictFalse → ¬ AreAllTrue verdicts.now) }
 {
@@ -109,13 +109,13 @@ fn print_verdict<W: Write>(out: &mut W, name: &str, right: bool) -> io::Result<(
 }
 
 /// The exit status for these verdicts.
-fn status_of(verdicts: &Verdicts) -> Status
+fn status_of(verdicts: &Verdicts) -> CommandStatus
     ensures fine { result ≡ Fine → AreAllTrue verdicts.now }
     ensures wrong { result ≡ VerdictFalse → ¬ AreAllTrue verdicts.now }
 {
     if verdicts.are_right() {
-        Status::Fine
+        CommandStatus::Fine
     } else {
-        Status::VerdictFalse
+        CommandStatus::VerdictFalse
     }
 }

@@ -11,7 +11,7 @@ ghost use Rattle.script_threads.specs.Verdicts.{IsRecovered};
 use block_device::MemDevice;
 use journal_model::JournalError;
 use journal_script::NamedBlocks;
-use script_run::{OpenedImage, Record, open_image};
+use script_run::{OpenedImage, RunRecord, open_image};
 use std::alloc::Global;
 
 /// Whether the crash image without any unflushed write opens to all acknowledged transactions, with each named block as they leave it.
@@ -22,7 +22,7 @@ use std::alloc::Global;
 pub(crate) fn recovers(
     alloc: Global,
     device: MemDevice,
-    recorded: &Record,
+    recorded: &RunRecord,
     named: &NamedBlocks,
 ) -> Result<bool, JournalError>
     ensures { IfOk result (IsRecovered device recorded.now.sealed.items recorded.now.acknowledged named.now) }
@@ -48,7 +48,7 @@ fn unopened(e: JournalError) -> Result<bool, JournalError>
 fn is_recovered(
     alloc: Global,
     opened: OpenedImage,
-    recorded: &Record,
+    recorded: &RunRecord,
     named: &NamedBlocks,
 ) -> Result<bool, JournalError>
     ensures { IfOk result (λ right. IsTrue right ↔ IsRight recorded.now.sealed.items recorded.now.acknowledged named.now (numbered_below opened.report.ends_at recorded.now.sealed.items)

@@ -16,14 +16,14 @@ use crate::verdicts::{Verdicts, credits_are_right, greatest_receipt, never_fall,
 use block_device::MemDevice;
 use journal_model::{JournalError, Sealed};
 use journal_script::{ClientScript, NamedBlocks};
-use script_run::{Record, empty_disk};
+use script_run::{RunRecord, empty_disk};
 use shared_journal::{JournalName, Parts, Tally, UnnamedJournal};
 use std::alloc::{AllocError, Global};
 use std::collections::BTreeSet;
 use std::marker::Brand;
 use std::sync::Wait;
 use std::thread::Threads;
-use volume_service::{ClientOutcome, HandlePlan, OpenGate, Outcome, Service};
+use volume_service::{ClientOutcome, HandlePlan, NoInterval, OpenGate, Outcome, Service};
 
 /// A client that was refused something.
 #[derive(Clone, Copy, Debug, PartialEq, Eq)]
@@ -87,7 +87,7 @@ fn run_on<J: JournalName + Send + Sync, W: Threads + Wait + Sync>(
 {
     let (journal, seat) = unnamed.named::<J>();
     let capacity = journal.capacity();
-    let outcome = Service::run(rt, alloc, journal, seat, plans, &OpenGate)?;
+    let outcome = Service::run(rt, alloc, journal, seat, plans, &OpenGate, &NoInterval)?;
     judge(alloc, outcome, plans, capacity, named)
 }
 
@@ -172,7 +172,7 @@ fn verdicts_of(
     }) named.now) }
 {
     let receipts = receipts_stand(told, committed_of(&parts.sealed, parts.committed));
-    let record = Record {
+    let record = RunRecord {
         sealed: parts.sealed,
         acknowledged: greatest_receipt(told),
     };

@@ -4,7 +4,7 @@ ghost use Rattle.std.specs.List.{AllZip};
 ghost use Rattle.script_threads.specs.Runs.{IsTold, named_by};
 
 use journal_model::{HandleNo, Tid};
-use shared_journal::{JournalName, Record as RecordOf, SharedReceipt};
+use shared_journal::{JournalName, Record, SharedReceipt};
 use std::alloc::{AllocError, Global};
 use volume_service::{ClientOutcome, HandleOutcome};
 
@@ -24,7 +24,7 @@ pub struct ToldHandle {
 }
 
 /// The answers for each client's handles.
-pub(crate) fn told_of<J: JournalName, R: RecordOf>(
+pub(crate) fn told_of<J: JournalName, R: Record>(
     alloc: Global,
     clients: &[ClientOutcome<J, R>],
 ) -> Result<Vec<Vec<ToldHandle>>, AllocError>
@@ -38,7 +38,7 @@ pub(crate) fn told_of<J: JournalName, R: RecordOf>(
     Ok(told)
 }
 
-fn told_client<J: JournalName, R: RecordOf>(
+fn told_client<J: JournalName, R: Record>(
     alloc: Global,
     handles: &[HandleOutcome<J, R>],
 ) -> Result<Vec<ToldHandle>, AllocError>
@@ -55,7 +55,7 @@ fn told_client<J: JournalName, R: RecordOf>(
     Ok(told)
 }
 
-fn told_receipt<J: JournalName, R: RecordOf>(
+fn told_receipt<J: JournalName, R: Record>(
     receipt: &Option<SharedReceipt<J, R>>,
 ) -> Option<ToldReceipt>
     ensures { result ≡ named_by receipt.now }

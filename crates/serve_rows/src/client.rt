@@ -1,5 +1,5 @@
 //! A client that gives each part of its bytes once it has the answers that the part waits for.
-use crate::given::Given;
+use crate::given::ConnectionRow;
 use std::io::{ErrorKind, Read, Write};
 use std::sync::atomic::{AtomicUsize, Ordering};
 use std::{io, thread};
@@ -9,17 +9,17 @@ const LOOKS: u64 = 2_000_000;
 
 /// The client's bytes. A read fails if the answers do not come that the next part waits for.
 #[derive(Drop)]
-pub struct Client<'a> {
-    given: &'a Given<'a>,
+pub struct RowClient<'a> {
+    given: &'a ConnectionRow<'a>,
     at: usize,
     /// How many bytes of answers were sent.
     sent: &'a AtomicUsize,
 }
 
-impl<'a> Client<'a> {
+impl<'a> RowClient<'a> {
     /// `sent` is what its answers count.
-    pub fn new(given: &'a Given<'a>, sent: &'a AtomicUsize) -> Client<'a> {
-        Client { given, at: 0, sent }
+    pub fn new(given: &'a ConnectionRow<'a>, sent: &'a AtomicUsize) -> RowClient<'a> {
+        RowClient { given, at: 0, sent }
     }
 
     /// The rest of the part that comes next, and for how many bytes of answers it waits.
@@ -48,7 +48,7 @@ impl<'a> Client<'a> {
     }
 }
 
-impl Read for Client<'_> {
+impl Read for RowClient<'_> {
     fn read(&mut self, buf: &mut [u8]) -> io::Result<usize> {
         let (part, after) = self.next();
         if !self.has(after) {

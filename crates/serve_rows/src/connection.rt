@@ -1,12 +1,12 @@
 //! Serves a row over a new log in memory. Lines tell the result: `out` the answered bytes; `end` how the connection ended and how many
 //! requests it had; `committed` the cookies of answers that confirmed a commit; `home` the content of home.
-use crate::client::{Answers, Client};
-use crate::given::Given;
+use crate::client::{Answers, RowClient};
+use crate::given::ConnectionRow;
 use crate::spelling::spell;
 use block_device::{Device, MemDevice};
 use journal_model::Area;
 use log_rows::RowError;
-use nbd_server::{Done, Export, Output, Served, serve};
+use nbd_server::{Done, Export, NoInterval, NoPrefetch, Output, Served, serve};
 use shared_journal::{UnnamedJournal, Unrecorded};
 use std::alloc::Global;
 use std::fmt::Write;
@@ -39,7 +39,7 @@ pub fn new_log(alloc: Global) -> Result<MemDevice, RowError> {
 
 /// A connection's end, its answers, and its device.
 #[derive(Drop)]
-pub struct Left<D: Drop> {
+pub struct EndedConnection<D: Drop> {
     pub done: Done,
     pub out: Vec<u8>,
     pub closed: bool,
@@ -50,9 +50,9 @@ pub struct Left<D: Drop> {
 pub fn serve_on<D: Device + Send + Drop, T: Threads + Wait + Sync>(
     threads: &T,
     alloc: Global,
-    given: &Given<'_>,
+    given: &ConnectionRow<'_>,
     device: D,
-) -> Result<Left<D>, RowError> {
+) -> Result<EndedConnection<D>, RowError> {
     let Ok(unnamed) = UnnamedJournal::<D, Unrecorded>::open(alloc, device) else {
         return Err(RowError::Unread);
     };
@@ -62,10 +62,10 @@ pub fn serve_on<D: Device + Send + Drop, T: Threads + Wait + Sync>(
         read_only: given.read_only,
         nameable: u64::MAX,
     };
-    let client = Client::new(given, &sent);
+    let client = RowClient::new(given, &sent);
     let answers = Answers::new(Vec::new(alloc), &sent);
     let (served, answers) = serve_client(threads, alloc, unnamed, export, client, answers)?;
-    Ok(Left {
+    Ok(EndedConnection {
         done: served.done,
         out: answers.into_sent(),
         closed: served.closed.is_ok(),
@@ -88,7 +88,17 @@ fn serve_client<
     answers: O,
 ) -> Result<(Served<D, Unrecorded>, O), RowError> {
     let out = Output::new(answers);
-    let Ok(served) = serve(threads, alloc, unnamed, export, KEEP, client, &out) else {
+    let Ok(served) = serve(
+        threads,
+        alloc,
+        unnamed,
+        export,
+        KEEP,
+        client,
+        &out,
+        &NoPrefetch,
+        &NoInterval,
+    ) else {
         return Err(RowError::Memory);
     };
     Ok((served, out.into_inner()))
@@ -118,7 +128,7 @@ fn home_block<D: Device>(alloc: Global, device: &mut D, block: u64) -> Result<Ve
 pub fn found<T: Threads + Wait + Sync>(
     threads: &T,
     alloc: Global,
-    given: &Given<'_>,
+    given: &ConnectionRow<'_>,
 ) -> Result<String, RowError> {
     let left = serve_on(threads, alloc, given, new_log(alloc)?)?;
     let mut device = left.device;

@@ -6,7 +6,7 @@ use log_rows::words::{count, cut};
 use std::alloc::Global;
 
 #[derive(Drop)]
-pub struct Given<'a> {
+pub struct ConnectionRow<'a> {
     /// The export's name.
     pub name: &'a str,
     /// Whether the export is read-only.
@@ -16,19 +16,19 @@ pub struct Given<'a> {
     /// How many of them come before the first request.
     pub before: usize,
     /// The parts of its requests, a line each.
-    pub parts: Vec<Part>,
+    pub parts: Vec<RequestPart>,
 }
 
 /// A part of the client's bytes.
 #[derive(Clone, Copy, Debug)]
-pub struct Part {
+pub struct RequestPart {
     /// Where it begins.
     pub from: usize,
     /// How many bytes of answers the client has before it.
     pub after: usize,
 }
 
-pub fn read<'a>(alloc: Global, text: &'a str) -> Result<Given<'a>, RowError> {
+pub fn read<'a>(alloc: Global, text: &'a str) -> Result<ConnectionRow<'a>, RowError> {
     let (first, rest) = cut(text, "\nhello")?;
     let (hello, requests) = cut(rest, "\nrequests")?;
     let (_serves, words) = cut(first, " ")?;
@@ -36,7 +36,7 @@ pub fn read<'a>(alloc: Global, text: &'a str) -> Result<Given<'a>, RowError> {
     let mut stream = bytes_of(alloc, hello)?;
     let before = stream.len();
     let parts = add_parts(alloc, &mut stream, requests)?;
-    Ok(Given {
+    Ok(ConnectionRow {
         name: name.trim(),
         read_only: kind == "readonly",
         stream,
@@ -46,12 +46,16 @@ pub fn read<'a>(alloc: Global, text: &'a str) -> Result<Given<'a>, RowError> {
 }
 
 /// Adds the bytes of each line to the stream. Returns the lines' parts.
-fn add_parts(alloc: Global, stream: &mut Vec<u8>, lines: &str) -> Result<Vec<Part>, RowError> {
+fn add_parts(
+    alloc: Global,
+    stream: &mut Vec<u8>,
+    lines: &str,
+) -> Result<Vec<RequestPart>, RowError> {
     let mut parts = Vec::new(alloc);
     for line in lines.lines() {
         let (after, bytes) = words_of(line)?;
         let from = stream.len();
-        if parts.push(Part { from, after }).is_err() {
+        if parts.push(RequestPart { from, after }).is_err() {
             return Err(RowError::Memory);
         }
         stream.extend_from_slice(&bytes_of(alloc, bytes)?)?;

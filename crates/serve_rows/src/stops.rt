@@ -2,12 +2,12 @@
 //! many. The result is `torn`, whether some image does not; `lost`, whether some image lacks a change that a commit confirmed; and
 //! `enough`, whether there were at least as many stops as such homes.
 use crate::connection::{home_of, new_log, serve_on};
-use crate::given::Given;
+use crate::given::ConnectionRow;
 use block_device::{MemDevice, StopAt};
 use log_rows::RowError;
 use nbd_protocol::numbers::{WRITE, WRITE_ZEROES};
 use nbd_protocol::{REPLY_BYTES, REQUEST_BYTES, Request, write_reply};
-use nbd_server::Committed;
+use nbd_server::Confirmed;
 use std::alloc::{AllocError, Global};
 use std::sync::Wait;
 use std::thread::Threads;
@@ -58,7 +58,7 @@ impl Model {
     }
 
     /// How many changes must survive.
-    fn safe(&self, committed: &[Committed], out: &[u8]) -> usize {
+    fn safe(&self, committed: &[Confirmed], out: &[u8]) -> usize {
         let mut safe = 0;
         for answer in committed {
             for (cookie, changes) in &self.flushes {
@@ -71,7 +71,7 @@ impl Model {
     }
 }
 
-fn model_of(alloc: Global, given: &Given<'_>, home: Vec<u8>) -> Result<Model, RowError> {
+fn model_of(alloc: Global, given: &ConnectionRow<'_>, home: Vec<u8>) -> Result<Model, RowError> {
     let mut now = home;
     let mut model = Model::new(alloc, &now)?;
     let mut rest = given.stream.get(given.before..).unwrap_or(&[]);
@@ -123,7 +123,7 @@ fn change<'a>(
 pub fn found<T: Threads + Wait + Sync>(
     threads: &T,
     alloc: Global,
-    given: &Given<'_>,
+    given: &ConnectionRow<'_>,
 ) -> Result<String, RowError> {
     let mut device = new_log(alloc)?;
     let model = model_of(alloc, given, home_of(alloc, &mut device)?)?;

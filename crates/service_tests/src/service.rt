@@ -4,6 +4,8 @@ ghost use Rattle.std.specs.Prelude.{◌≡◌};
 
 mod flushes;
 mod gates;
+mod interval;
+mod leaving;
 mod moments;
 mod refused;
 mod rounds;
@@ -24,8 +26,8 @@ use std::thread::Threads;
 use test_logs::{BLOCK_SIZE, formatted, opened};
 use thread_tests::journals::{create_on, unnamed_on};
 use volume_service::{
-    Client, ClientOutcome, Gate, HandlePlan, OpenGate, Outcome, Service, Session, Touch,
-    serve_clients,
+    Client, ClientOutcome, Gate, HandlePlan, NoInterval, OpenGate, Outcome, Service, Session,
+    Touch, serve_clients,
 };
 
 /// Blocks of the log; a transaction then has at most six credits.
@@ -171,7 +173,7 @@ fn try_run<
     requires name { unnamed.name ≡ J.name }
 {
     let (journal, seat) = unnamed.named::<J>();
-    match Service::run(rt, alloc, journal, seat, plans, gate) {
+    match Service::run(rt, alloc, journal, seat, plans, gate, &NoInterval) {
         Ok(outcome) => Ok(summary_of(outcome)),
         Err(e) => Err(e),
     }
@@ -217,7 +219,7 @@ where
     requires name { unnamed.name ≡ J.name }
 {
     let (journal, seat) = unnamed.named::<J>();
-    let served = serve_clients(rt, alloc, &journal, seat, clients, &OpenGate);
+    let served = serve_clients(rt, alloc, &journal, seat, clients, &OpenGate, &NoInterval);
     let parts = journal.into_single().into_parts();
     Ok((served?.answers, parts.device))
 }

@@ -3,7 +3,7 @@ use crate::expected::expect;
 use block_device::{FailOnce, MemDevice};
 use commit_times::threads::bench;
 use jbench_words::watch::Unwatched;
-use jbench_words::words::{Words, parse};
+use jbench_words::words::{CommandWords, parse};
 use journal_model::JournalError;
 use std::alloc::Global;
 use std::io;
@@ -42,7 +42,9 @@ fn said<R: Threads + Wait + Sync, C: Clock + Sync>(
         "2",
     ];
     match parse(alloc, &words) {
-        Ok(Words::Bench(words)) => bench(rt, clock, alloc, &words, 4, device, Unwatched, out, err),
+        Ok(CommandWords::Bench(words)) => bench(
+            rt, clock, alloc, &words, 4, device, Unwatched, out, err,
+        ),
         _ => Ok(None),
     }
 }

@@ -4,7 +4,7 @@ use Rattle.std.specs.Prelude.{Bool, []}
 use Rattle.atomic_table.specs.Seated.{TableId}
 use Rattle.block_device.specs.State.{DeviceState}
 use Rattle.handle.specs.Values.{BoardValue}
-use Rattle.journal_sides.specs.Sides.{SidesValue}
+use Rattle.locked_journal.specs.Sides.{SidesValue}
 use Rattle.locked_journal.specs.Begun.{ComesFrom}
 use Rattle.shared_journal.specs.Unnamed.{MayBegin, unnamed_value}
 

@@ -11,7 +11,7 @@ use Rattle.group_commit.specs.Close.{CloseDid, EndsWith}
 use Rattle.group_commit.specs.Close.CloseDid.{ClosesLog, StaysClean}
 use Rattle.locked_journal.specs.Begun.{ComesFrom, IsEndOf}
 use Rattle.locked_journal.proofs.Reaching.{reached-comes}
-use Rattle.shared_journal.specs.Ends.{IsClosedWell, IsNotClosed}
+use Rattle.group_commit.specs.Closes.{IsClosedWell, IsNotClosed}
 
 module _ {D : Type 0} (state : D → DeviceState) (honest : D → Type 0) (name : JournalId) (old : JournalValue D) (comes : ComesFrom state honest name old) where
   module _ (device : D) (sealed : History) (committed : ℕ) (back : honest device → honest old.device) where

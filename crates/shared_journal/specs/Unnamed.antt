@@ -14,7 +14,7 @@ use Rattle.handle.specs.Name.{JournalId}
 use Rattle.handle.specs.Values.{BoardValue}
 use Rattle.locked_journal.specs.Begun.{cells_of}
 use Rattle.locked_journal.specs.Locked.{IsHeld}
-use Rattle.journal_sides.specs.Sides.{SidesValue}
+use Rattle.locked_journal.specs.Sides.{SidesValue}
 use Rattle.journal_steps.specs.Values.{JournalValue}
 use Rattle.group_commit.specs.Begun.{world_of_new}
 

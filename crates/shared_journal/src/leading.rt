@@ -174,6 +174,39 @@ impl<J: JournalName, D: Device, R: Record> Turns<'_, J, D, R> {
         Ok(committed)
     }
 
+    /// Commits what handles have joined by now, once nobody else leads: two transactions at most, since one may be locked or under way beside
+    /// the running one. It returns whether it committed any. Where memory is short it ends too; who waits later is told.
+    ///
+    /// # Errors
+    ///
+    /// `Aborted`, `Device`.
+    /// Source: fs/jbd2/journal.c by behaviour (`kjournald2`, `commit_timeout`).
+    #[tactic(auto, using(crate::proofs::LeadRefusals::failed))]
+    pub fn commit_joined<W: Wait>(&self, rt: &W) -> Result<bool, JournalError>
+        ensures ok { IfOk result (λ committed. committed ≡ true → CommittedThen D.state) }
+        ensures err { IfErr result (λ e. IsFailure e × FailureKnownThen D) }
+    {
+        let mut committed = false;
+        'leading: for _ in rt.forever() {
+            let seen = self.commits().seen();
+            match self.lead(rt, Locks::Joined) {
+                Ok(Led::Busy) => self.commits().wait(rt, seen),
+                Ok(Led::Committed) => {
+                    if committed {
+                        break;
+                    }
+                    committed = true;
+                }
+                Ok(Led::Idle) => break,
+                Err(e) => match e {
+                    JournalError::Memory => break,
+                    _ => return Err(e),
+                },
+            }
+        }
+        Ok(committed)
+    }
+
     /// Takes checkpoint turns as long as a round is due, nobody leads, and nobody begins to wait: whoever leads then takes them.
     ///
     /// # Errors

@@ -1,8 +1,8 @@
 //! Performs a script's operations on a shared journal.
 ghost use Rattle.std.specs.Prelude.{◌≡◌, length, true, IfOk};
 
-use crate::outcome::{Outcome, PRINTED_BYTES};
-use crate::slots::{Slot, Slots};
+use crate::outcome::{PRINTED_BYTES, SharedOutcome};
+use crate::slots::{SharedSlot, SharedSlots};
 use journal_model::{BlockNo, JournalError, Sealed, Tid};
 use journal_script::{HandleName, Operation};
 use script_run::RunDevice;
@@ -16,12 +16,12 @@ use std::sync::Wait;
 const MOST_TURNS: u32 = 2_000_000;
 
 /// A client of a journal, and the slots of a script's names.
-pub(crate) struct Interpreter<'j, J: JournalName, R: Wait> {
+pub(crate) struct SharedInterpreter<'j, J: JournalName, R: Wait> {
     rt: &'j R,
     alloc: Global,
     journal: &'j Journal<J, RunDevice, Vec<Sealed>>,
     seat: Seat<J>,
-    slots: Slots<'j, J>,
+    slots: SharedSlots<'j, J>,
     /// The greatest acknowledged transaction.
     acknowledged: Option<Tid>,
     ghost direct: { J.name.direct ≡ true },
@@ -59,14 +59,14 @@ fn names_in(operations: &[Operation]) -> usize {
     names
 }
 
-fn done_or_refused(answer: Result<(), JournalError>) -> Outcome {
+fn done_or_refused(answer: Result<(), JournalError>) -> SharedOutcome {
     match answer {
-        Ok(()) => Outcome::Done,
-        Err(e) => Outcome::Refused(e),
+        Ok(()) => SharedOutcome::Done,
+        Err(e) => SharedOutcome::Refused(e),
     }
 }
 
-impl<'j, J: JournalName, R: Wait> Interpreter<'j, J, R> {
+impl<'j, J: JournalName, R: Wait> SharedInterpreter<'j, J, R> {
     /// An interpreter of these operations on a journal, with empty slots.
     ///
     /// # Errors
@@ -83,18 +83,18 @@ impl<'j, J: JournalName, R: Wait> Interpreter<'j, J, R> {
     {
         let names = names_in(operations);
         let room = Vec::with_capacity(alloc, names)?;
-        Ok(Interpreter {
+        Ok(SharedInterpreter {
             rt,
             alloc,
             journal,
             seat,
-            slots: Slots::of(room, names),
+            slots: SharedSlots::of(room, names),
             acknowledged: None,
         })
     }
 
     /// Performs an operation.
-    pub(crate) fn perform(&mut self, operation: &Operation) -> Outcome {
+    pub(crate) fn perform(&mut self, operation: &Operation) -> SharedOutcome {
         match operation {
             Operation::Start(name, credits) => self.start(*name, *credits),
             Operation::Write(name, _, _) => self.touch(*name, operation),
@@ -118,7 +118,7 @@ impl<'j, J: JournalName, R: Wait> Interpreter<'j, J, R> {
 
     /// Stops the open handles, and returns the greatest acknowledged transaction.
     pub(crate) fn finish(self) -> Option<Tid> {
-        let Interpreter {
+        let SharedInterpreter {
             rt,
             alloc: _,
             journal,
@@ -129,27 +129,27 @@ impl<'j, J: JournalName, R: Wait> Interpreter<'j, J, R> {
         let mut slots = slots.into_slots();
         while let Some(slot) = slots.pop() {
             match slot {
-                Slot::Open(handle) => {
+                SharedSlot::Open(handle) => {
                     let _ = journal.stop(rt, handle);
                 }
-                Slot::Empty | Slot::Stopped(_) | Slot::Waited(_) => {}
+                SharedSlot::Empty | SharedSlot::Stopped(_) | SharedSlot::Waited(_) => {}
             }
         }
         slots.destroy_empty();
         acknowledged
     }
 
-    fn take(&mut self, name: HandleName) -> Slot<'j, J> {
-        self.slots.replace(name, Slot::Empty)
+    fn take(&mut self, name: HandleName) -> SharedSlot<'j, J> {
+        self.slots.replace(name, SharedSlot::Empty)
     }
 
     /// Fills a name's slot. It stops an open handle there, which no script asks for.
-    fn put(&mut self, name: HandleName, slot: Slot<'j, J>) {
+    fn put(&mut self, name: HandleName, slot: SharedSlot<'j, J>) {
         match self.slots.replace(name, slot) {
-            Slot::Open(handle) => {
+            SharedSlot::Open(handle) => {
                 let _ = self.journal.stop(self.rt, handle);
             }
-            Slot::Empty | Slot::Stopped(_) | Slot::Waited(_) => {}
+            SharedSlot::Empty | SharedSlot::Stopped(_) | SharedSlot::Waited(_) => {}
         }
     }
 
@@ -158,34 +158,34 @@ impl<'j, J: JournalName, R: Wait> Interpreter<'j, J, R> {
     }
 
     /// Starts a handle unless its name has an open one. A refusal leaves the slot empty.
-    fn start(&mut self, name: HandleName, credits: u64) -> Outcome {
+    fn start(&mut self, name: HandleName, credits: u64) -> SharedOutcome {
         if !self.slots.is_free(name) {
-            return Outcome::Skipped;
+            return SharedOutcome::Skipped;
         }
         match self.journal.try_start(self.rt, &mut self.seat, credits) {
             Ok(handle) => {
                 let tid = handle.tid();
-                self.put(name, Slot::Open(handle));
-                Outcome::Transaction(tid)
+                self.put(name, SharedSlot::Open(handle));
+                SharedOutcome::Transaction(tid)
             }
             Err(e) => {
-                self.put(name, Slot::Empty);
-                Outcome::Refused(e)
+                self.put(name, SharedSlot::Empty);
+                SharedOutcome::Refused(e)
             }
         }
     }
 
-    fn touch(&mut self, name: HandleName, operation: &Operation) -> Outcome {
+    fn touch(&mut self, name: HandleName, operation: &Operation) -> SharedOutcome {
         match self.take(name) {
-            Slot::Open(handle) => {
+            SharedSlot::Open(handle) => {
                 let mut handle = handle;
                 let outcome = self.touch_by(&mut handle, operation);
-                self.put(name, Slot::Open(handle));
+                self.put(name, SharedSlot::Open(handle));
                 outcome
             }
             other => {
                 self.put(name, other);
-                Outcome::Skipped
+                SharedOutcome::Skipped
             }
         }
     }
@@ -194,7 +194,7 @@ impl<'j, J: JournalName, R: Wait> Interpreter<'j, J, R> {
         &mut self,
         handle: &mut SharedHandle<'j, J, Vec<Sealed>>,
         operation: &Operation,
-    ) -> Outcome {
+    ) -> SharedOutcome {
         match operation {
             Operation::Write(_, block, bytes) => self.write(handle, *block, bytes),
             Operation::Revoke(_, block) => {
@@ -202,7 +202,7 @@ impl<'j, J: JournalName, R: Wait> Interpreter<'j, J, R> {
             }
             Operation::Extend(_, credits) => self.extend(handle, *credits),
             Operation::Read(_, block) => self.read(handle, *block),
-            _ => Outcome::Skipped,
+            _ => SharedOutcome::Skipped,
         }
     }
 
@@ -211,44 +211,52 @@ impl<'j, J: JournalName, R: Wait> Interpreter<'j, J, R> {
         handle: &mut SharedHandle<'j, J, Vec<Sealed>>,
         block: BlockNo,
         bytes: &[u8],
-    ) -> Outcome {
+    ) -> SharedOutcome {
         match block_of(self.alloc, self.journal.block_size(), bytes) {
             Ok(whole) => { done_or_refused(self.journal.write(self.rt, handle, block, &whole)) }
-            Err(_) => Outcome::Refused(JournalError::Memory),
+            Err(_) => SharedOutcome::Refused(JournalError::Memory),
         }
     }
 
-    fn read(&mut self, handle: &mut SharedHandle<'j, J, Vec<Sealed>>, block: BlockNo) -> Outcome {
+    fn read(
+        &mut self,
+        handle: &mut SharedHandle<'j, J, Vec<Sealed>>,
+        block: BlockNo,
+    ) -> SharedOutcome {
         match vec![in self.alloc; 0; self.journal.block_size()] {
             Ok(mut bytes) => match self.journal.read(self.rt, handle, block, &mut bytes) {
-                Ok(()) => Outcome::Begins(front_of(&bytes)),
-                Err(e) => Outcome::Refused(e),
+                Ok(()) => SharedOutcome::Begins(front_of(&bytes)),
+                Err(e) => SharedOutcome::Refused(e),
             },
-            Err(_) => Outcome::Refused(JournalError::Memory),
+            Err(_) => SharedOutcome::Refused(JournalError::Memory),
         }
     }
 
     /// Reserves credits and adds them to a handle; if the handle refuses them, they return.
-    fn extend(&mut self, handle: &mut SharedHandle<'j, J, Vec<Sealed>>, credits: u64) -> Outcome {
+    fn extend(
+        &mut self,
+        handle: &mut SharedHandle<'j, J, Vec<Sealed>>,
+        credits: u64,
+    ) -> SharedOutcome {
         match self.journal.reserve(&mut self.seat, credits) {
             Ok(granted) => match self.journal.extend(self.rt, handle, granted) {
-                Ok(()) => Outcome::Done,
+                Ok(()) => SharedOutcome::Done,
                 Err((granted, e)) => {
                     self.journal.give_back(granted);
-                    Outcome::Refused(e)
+                    SharedOutcome::Refused(e)
                 }
             },
-            Err(e) => Outcome::Refused(e),
+            Err(e) => SharedOutcome::Refused(e),
         }
     }
 
     /// Restarts a handle. A refusal leaves the stopped handle's ticket in the slot.
-    fn restart(&mut self, name: HandleName, credits: u64) -> Outcome {
+    fn restart(&mut self, name: HandleName, credits: u64) -> SharedOutcome {
         match self.take(name) {
-            Slot::Open(handle) => self.restart_open(name, handle, credits),
+            SharedSlot::Open(handle) => self.restart_open(name, handle, credits),
             other => {
                 self.put(name, other);
-                Outcome::Skipped
+                SharedOutcome::Skipped
             }
         }
     }
@@ -258,54 +266,54 @@ impl<'j, J: JournalName, R: Wait> Interpreter<'j, J, R> {
         name: HandleName,
         handle: SharedHandle<'j, J, Vec<Sealed>>,
         credits: u64,
-    ) -> Outcome {
+    ) -> SharedOutcome {
         match self
             .journal
             .try_restart(self.rt, handle, &mut self.seat, credits)
         {
             Ok(handle) => {
                 let tid = handle.tid();
-                self.put(name, Slot::Open(handle));
-                Outcome::Transaction(tid)
+                self.put(name, SharedSlot::Open(handle));
+                SharedOutcome::Transaction(tid)
             }
             Err((ticket, e)) => {
-                self.put(name, Slot::Stopped(ticket));
-                Outcome::Refused(e)
+                self.put(name, SharedSlot::Stopped(ticket));
+                SharedOutcome::Refused(e)
             }
         }
     }
 
-    fn stop(&mut self, name: HandleName) -> Outcome {
+    fn stop(&mut self, name: HandleName) -> SharedOutcome {
         match self.take(name) {
-            Slot::Open(handle) => {
+            SharedSlot::Open(handle) => {
                 let ticket = self.journal.stop(self.rt, handle);
                 let tid = ticket.tid();
-                self.put(name, Slot::Stopped(ticket));
-                Outcome::Transaction(tid)
+                self.put(name, SharedSlot::Stopped(ticket));
+                SharedOutcome::Transaction(tid)
             }
             other => {
                 self.put(name, other);
-                Outcome::Skipped
+                SharedOutcome::Skipped
             }
         }
     }
 
     /// Requests a commit. A receipt's transaction is committed, so only an abort refuses it.
-    fn request(&mut self, name: HandleName) -> Outcome {
+    fn request(&mut self, name: HandleName) -> SharedOutcome {
         match self.take(name) {
-            Slot::Stopped(ticket) => {
+            SharedSlot::Stopped(ticket) => {
                 let mut ticket = ticket;
                 let asked = self.journal.request(self.rt, &mut ticket);
-                self.put(name, Slot::Stopped(ticket));
+                self.put(name, SharedSlot::Stopped(ticket));
                 done_or_refused(asked)
             }
-            Slot::Waited(receipt) => {
-                self.put(name, Slot::Waited(receipt));
+            SharedSlot::Waited(receipt) => {
+                self.put(name, SharedSlot::Waited(receipt));
                 done_or_refused(self.unless_aborted())
             }
             other => {
                 self.put(name, other);
-                Outcome::Skipped
+                SharedOutcome::Skipped
             }
         }
     }
@@ -319,139 +327,143 @@ impl<'j, J: JournalName, R: Wait> Interpreter<'j, J, R> {
         }
     }
 
-    fn lock(&mut self) -> Outcome {
+    fn lock(&mut self) -> SharedOutcome {
         match self.journal.lock(self.rt) {
-            Ok(tid) => Outcome::Transaction(tid),
-            Err(e) => Outcome::Refused(e),
+            Ok(tid) => SharedOutcome::Transaction(tid),
+            Err(e) => SharedOutcome::Refused(e),
         }
     }
 
-    fn turn(&mut self) -> Outcome {
+    fn turn(&mut self) -> SharedOutcome {
         match self.journal.commit_turn(self.rt) {
-            Ok(turn) => Outcome::Turn(turn),
-            Err(e) => Outcome::Refused(e),
+            Ok(turn) => SharedOutcome::Turn(turn),
+            Err(e) => SharedOutcome::Refused(e),
         }
     }
 
-    fn checkpoint_turn(&mut self) -> Outcome {
+    fn checkpoint_turn(&mut self) -> SharedOutcome {
         match self.journal.checkpoint_turn(self.rt) {
-            Ok(turn) => Outcome::CheckTurn(turn),
-            Err(e) => Outcome::Refused(e),
+            Ok(turn) => SharedOutcome::CheckTurn(turn),
+            Err(e) => SharedOutcome::Refused(e),
         }
     }
 
-    fn check(&mut self) -> Outcome {
+    fn check(&mut self) -> SharedOutcome {
         for _ in 0..MOST_TURNS {
             match self.journal.checkpoint_turn(self.rt) {
-                Ok(CheckTurn::Idle) => return Outcome::CheckTurn(CheckTurn::Idle),
+                Ok(CheckTurn::Idle) => return SharedOutcome::CheckTurn(CheckTurn::Idle),
                 Ok(_) => {}
-                Err(e) => return Outcome::Refused(e),
+                Err(e) => return SharedOutcome::Refused(e),
             }
         }
-        Outcome::CheckTurn(CheckTurn::Idle)
+        SharedOutcome::CheckTurn(CheckTurn::Idle)
     }
 
-    fn commit(&mut self) -> Outcome {
+    fn commit(&mut self) -> SharedOutcome {
         for _ in 0..MOST_TURNS {
             match self.journal.commit_turn(self.rt) {
                 Ok(Turn::Idle | Turn::Waiting) => return self.mark(),
                 Ok(_) => {}
-                Err(e) => return Outcome::Refused(e),
+                Err(e) => return SharedOutcome::Refused(e),
             }
         }
         self.mark()
     }
 
     /// The last transaction that the journal reports committed.
-    fn mark(&mut self) -> Outcome {
-        Outcome::Transaction(self.journal.seen(&mut self.seat))
+    fn mark(&mut self) -> SharedOutcome {
+        SharedOutcome::Transaction(self.journal.seen(&mut self.seat))
     }
 
     /// The status of a name's transaction; a committed one is noted.
-    fn status(&mut self, name: HandleName) -> Outcome {
+    fn status(&mut self, name: HandleName) -> SharedOutcome {
         match self.take(name) {
-            Slot::Stopped(ticket) => {
+            SharedSlot::Stopped(ticket) => {
                 let status = self.journal.status(&ticket, &mut self.seat);
                 let told = self.told(ticket.tid(), status);
-                self.put(name, Slot::Stopped(ticket));
+                self.put(name, SharedSlot::Stopped(ticket));
                 told
             }
-            Slot::Waited(receipt) => {
+            SharedSlot::Waited(receipt) => {
                 self.acknowledge(receipt.tid());
-                self.put(name, Slot::Waited(receipt));
-                Outcome::Committed
+                self.put(name, SharedSlot::Waited(receipt));
+                SharedOutcome::Committed
             }
             other => {
                 self.put(name, other);
-                Outcome::Skipped
+                SharedOutcome::Skipped
             }
         }
     }
 
-    fn told(&mut self, tid: Tid, status: Status) -> Outcome {
+    fn told(&mut self, tid: Tid, status: Status) -> SharedOutcome {
         match status {
             Status::Committed => {
                 self.acknowledge(tid);
-                Outcome::Committed
+                SharedOutcome::Committed
             }
-            Status::Open => Outcome::Open,
+            Status::Open => SharedOutcome::Open,
         }
     }
 
     /// Takes the receipt of a committed transaction and notes it, but does not wait for an open one.
-    fn wait(&mut self, name: HandleName) -> Outcome {
+    fn wait(&mut self, name: HandleName) -> SharedOutcome {
         match self.take(name) {
-            Slot::Stopped(ticket) => self.wait_for(name, ticket),
-            Slot::Waited(receipt) => {
+            SharedSlot::Stopped(ticket) => self.wait_for(name, ticket),
+            SharedSlot::Waited(receipt) => {
                 let told = self.acknowledge_receipt(&receipt);
-                self.put(name, Slot::Waited(receipt));
+                self.put(name, SharedSlot::Waited(receipt));
                 told
             }
             other => {
                 self.put(name, other);
-                Outcome::Skipped
+                SharedOutcome::Skipped
             }
         }
     }
 
     /// Takes a ticket's receipt, if its transaction is committed.
-    fn wait_for(&mut self, name: HandleName, ticket: SharedTicket<J, Vec<Sealed>>) -> Outcome {
+    fn wait_for(
+        &mut self,
+        name: HandleName,
+        ticket: SharedTicket<J, Vec<Sealed>>,
+    ) -> SharedOutcome {
         if matches!(self.journal.status(&ticket, &mut self.seat), Status::Open) {
-            self.put(name, Slot::Stopped(ticket));
-            return Outcome::Open;
+            self.put(name, SharedSlot::Stopped(ticket));
+            return SharedOutcome::Open;
         }
         if let Err(e) = self.unless_aborted() {
-            self.put(name, Slot::Stopped(ticket));
-            return Outcome::Refused(e);
+            self.put(name, SharedSlot::Stopped(ticket));
+            return SharedOutcome::Refused(e);
         }
         match self.journal.wait(self.rt, ticket) {
             Ok(receipt) => {
                 let mut receipt = receipt;
                 self.journal.audit(self.rt, &mut receipt);
                 let told = self.acknowledge_receipt(&receipt);
-                self.put(name, Slot::Waited(receipt));
+                self.put(name, SharedSlot::Waited(receipt));
                 told
             }
             Err((ticket, e)) => {
-                self.put(name, Slot::Stopped(ticket));
-                Outcome::Refused(e)
+                self.put(name, SharedSlot::Stopped(ticket));
+                SharedOutcome::Refused(e)
             }
         }
     }
 
     /// Notes a receipt's transaction and answers it, or answers `Aborted` if the journal is aborted.
-    fn acknowledge_receipt(&mut self, receipt: &SharedReceipt<J, Vec<Sealed>>) -> Outcome {
+    fn acknowledge_receipt(&mut self, receipt: &SharedReceipt<J, Vec<Sealed>>) -> SharedOutcome {
         if let Err(e) = self.unless_aborted() {
-            return Outcome::Refused(e);
+            return SharedOutcome::Refused(e);
         }
         self.acknowledge(receipt.tid());
-        Outcome::Transaction(receipt.tid())
+        SharedOutcome::Transaction(receipt.tid())
     }
 
-    fn write_direct(&mut self, block: BlockNo, bytes: &[u8]) -> Outcome {
+    fn write_direct(&mut self, block: BlockNo, bytes: &[u8]) -> SharedOutcome {
         match block_of(self.alloc, self.journal.block_size(), bytes) {
             Ok(whole) => { done_or_refused(self.journal.write_direct(self.rt, block, &whole)) }
-            Err(_) => Outcome::Refused(JournalError::Memory),
+            Err(_) => SharedOutcome::Refused(JournalError::Memory),
         }
     }
 }

@@ -9,7 +9,7 @@ use std::io::Write;
 pub(crate) const PRINTED_BYTES: usize = 8;
 
 #[derive(Clone, Copy)]
-pub(crate) enum Outcome {
+pub(crate) enum SharedOutcome {
     /// Accepted; the number of its transaction.
     Transaction(Tid),
     Done,
@@ -28,7 +28,7 @@ pub(crate) enum Outcome {
 /// Writes the line of an operation.
 pub(crate) fn write_line(
     operation: &Operation,
-    outcome: &Outcome,
+    outcome: &SharedOutcome,
     out: &mut Vec<u8>,
 ) -> io::Result<()> {
     write!(out, "{operation} = ")?;
@@ -36,17 +36,17 @@ pub(crate) fn write_line(
     writeln!(out)
 }
 
-fn write_outcome(outcome: &Outcome, out: &mut Vec<u8>) -> io::Result<()> {
+fn write_outcome(outcome: &SharedOutcome, out: &mut Vec<u8>) -> io::Result<()> {
     match outcome {
-        Outcome::Transaction(tid) => write!(out, "{}", tid.0),
-        Outcome::Done => write!(out, "ok"),
-        Outcome::Begins(bytes) => write_bytes(bytes, out),
-        Outcome::Turn(turn) => write_turn(*turn, out),
-        Outcome::CheckTurn(turn) => write_check_turn(*turn, out),
-        Outcome::Committed => write!(out, "committed"),
-        Outcome::Open => write!(out, "open"),
-        Outcome::Skipped => write!(out, "skipped"),
-        Outcome::Refused(e) => write!(out, "refused {} {}", e.number(), e.name()),
+        SharedOutcome::Transaction(tid) => write!(out, "{}", tid.0),
+        SharedOutcome::Done => write!(out, "ok"),
+        SharedOutcome::Begins(bytes) => write_bytes(bytes, out),
+        SharedOutcome::Turn(turn) => write_turn(*turn, out),
+        SharedOutcome::CheckTurn(turn) => write_check_turn(*turn, out),
+        SharedOutcome::Committed => write!(out, "committed"),
+        SharedOutcome::Open => write!(out, "open"),
+        SharedOutcome::Skipped => write!(out, "skipped"),
+        SharedOutcome::Refused(e) => write!(out, "refused {} {}", e.number(), e.name()),
     }
 }
 

@@ -1,14 +1,15 @@
 //! Runs scripts over a shared journal, as `script_run` does over the journal of one thread.
 ghost use Rattle.std.specs.Prelude.{◌≡◌, true};
 
-use crate::interpreter::Interpreter;
-use crate::outcome::{Outcome, write_line};
+use crate::interpreter::SharedInterpreter;
+use crate::outcome::{SharedOutcome, write_line};
 use block_device::Device;
 use journal_model::{JournalError, Sealed, Tid};
 use journal_script::{NamedBlocks, Operation, Script};
 use recovery::Opened;
 use script_run::{
-    AfterFailure, Fault, Record, RunDevice, Stopped, Stops, empty_log, judge_copied, judge_left,
+    AfterFailure, Fault, RunDevice, RunRecord, StoppedRun, Stops, empty_log, judge_copied,
+    judge_left,
 };
 use shared_journal::{Journal, JournalName, Seat, UnnamedJournal, create};
 use std::alloc::Global;
@@ -17,9 +18,9 @@ use std::sync::Wait;
 
 /// The device and the record after the operations.
 #[derive(Drop)]
-struct Done {
+struct FinishedRun {
     device: RunDevice,
-    recorded: Record,
+    recorded: RunRecord,
 }
 
 /// Runs a script, prints its lines, the crash image's dump and the verdict on its openings, and answers the verdict.
@@ -95,7 +96,7 @@ pub fn run_operations<R: Wait>(
     stop: Option<u64>,
     failing_call: Option<u64>,
     out: &mut Vec<u8>,
-) -> Result<Stopped, Fault> {
+) -> Result<StoppedRun, Fault> {
     let after = match failing_call {
         Some(_) => AfterFailure::GoOn,
         None => AfterFailure::End,
@@ -117,10 +118,10 @@ pub fn run_operations_over<R: Wait>(
     after: AfterFailure,
     stop: Option<u64>,
     out: &mut Vec<u8>,
-) -> Result<Stopped, Fault> {
+) -> Result<StoppedRun, Fault> {
     let done = done_on(rt, alloc, opened, operations, after, out)?;
     let device = done.device.into_inner();
-    Ok(Stopped {
+    Ok(StoppedRun {
         at_write: if device.is_stopped() { stop } else { None },
         device: device.into_inner(),
         recorded: done.recorded,
@@ -148,7 +149,7 @@ fn done_on<R: Wait>(
     operations: &[Operation],
     after: AfterFailure,
     out: &mut Vec<u8>,
-) -> Result<Done, Fault> {
+) -> Result<FinishedRun, Fault> {
     match create(alloc, opened) {
         Ok(unnamed) => {
             let unnamed = unnamed.with_direct_writes();
@@ -165,16 +166,16 @@ fn done_by<J: JournalName, R: Wait>(
     operations: &[Operation],
     after: AfterFailure,
     out: &mut Vec<u8>,
-) -> Result<Done, Fault>
+) -> Result<FinishedRun, Fault>
     requires name { unnamed.name ≡ J.name }
     requires direct { unnamed.name.direct ≡ true }
 {
     let (journal, seat) = unnamed.named::<J>();
     let shown = perform(rt, alloc, &journal, seat, operations, after, out);
     let parts = journal.into_single().into_parts();
-    Ok(Done {
+    Ok(FinishedRun {
         device: parts.device,
-        recorded: Record {
+        recorded: RunRecord {
             sealed: parts.sealed,
             acknowledged: shown?,
         },
@@ -193,7 +194,7 @@ fn perform<J: JournalName, R: Wait>(
 ) -> Result<Option<Tid>, Fault>
     requires { J.name.direct ≡ true }
 {
-    let mut interpreter = Interpreter::new(rt, alloc, journal, seat, operations)?;
+    let mut interpreter = SharedInterpreter::new(rt, alloc, journal, seat, operations)?;
     let performed = perform_all(&mut interpreter, operations, after, out);
     let shown = interpreter.finish();
     match performed {
@@ -204,7 +205,7 @@ fn perform<J: JournalName, R: Wait>(
 
 /// Performs operations and prints a line for each, up to the one that ends the list.
 fn perform_all<J: JournalName, R: Wait>(
-    interpreter: &mut Interpreter<'_, J, R>,
+    interpreter: &mut SharedInterpreter<'_, J, R>,
     operations: &[Operation],
     after: AfterFailure,
     out: &mut Vec<u8>,
@@ -219,6 +220,6 @@ fn perform_all<J: JournalName, R: Wait>(
     Ok(())
 }
 
-fn is_last(outcome: &Outcome, after: AfterFailure) -> bool {
-    after == AfterFailure::End && matches!(outcome, Outcome::Refused(JournalError::Device))
+fn is_last(outcome: &SharedOutcome, after: AfterFailure) -> bool {
+    after == AfterFailure::End && matches!(outcome, SharedOutcome::Refused(JournalError::Device))
 }

@@ -34,7 +34,7 @@ fn is_set(word: &AtomicU64) -> bool {
 }
 
 /// May hold a write for a limited time.
-trait Gate {
+trait WriteGate {
     /// Called before a write to this area.
     fn pass(&self, area: Area);
 }
@@ -61,7 +61,7 @@ impl Overtaking {
     }
 }
 
-impl Gate for Overtaking {
+impl WriteGate for Overtaking {
     fn pass(&self, area: Area) {
         if area != self.area || self.held.fetch_add(1, Ordering::SeqCst) != 0 {
             return;
@@ -72,7 +72,7 @@ impl Gate for Overtaking {
     }
 }
 
-impl<G: Gate> Gate for &G {
+impl<G: WriteGate> WriteGate for &G {
     fn pass(&self, area: Area) {
         (**self).pass(area)
     }
@@ -80,12 +80,12 @@ impl<G: Gate> Gate for &G {
 
 /// A device that passes a gate before each write.
 #[derive(Drop)]
-struct HeldDevice<D, G> {
+struct GatedDevice<D, G> {
     device: D,
     gate: G,
 }
 
-impl<D: Device, G: Gate> Device for HeldDevice<D, G> {
+impl<D: Device, G: WriteGate> Device for GatedDevice<D, G> {
     ghost state = { λ s. D.state s.device };
 
     ghost honest = { λ s. D.honest s.device };
@@ -322,7 +322,7 @@ fn is_overtaken<R: Threads + Wait + Abort + Sync>(
     area: Area,
 ) -> Result<(), JournalError> {
     let gate = Overtaking::new(area);
-    let device = HeldDevice {
+    let device = GatedDevice {
         device: formatted(alloc, 1024, 4096)?,
         gate: &gate,
     };

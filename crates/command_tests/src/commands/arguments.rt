@@ -6,11 +6,11 @@ use std::test::Fail;
 
 /// The words of a program.
 #[derive(Drop)]
-struct Given<'a> {
+struct GivenArguments<'a> {
     words: &'a [&'a [u8]],
 }
 
-impl Env for Given<'_> {
+impl Env for GivenArguments<'_> {
     fn arg(&self, i: usize, buf: &mut [u8]) -> Result<usize, FillError> {
         match self.words.get(i) {
             Some(word) if word.len() <= buf.len() => {
@@ -33,7 +33,7 @@ impl Env for Given<'_> {
 
 /// A program's words, in brackets, and the first that is not UTF-8.
 fn told(alloc: Global, words: &[&[u8]]) -> Result<String, Fail> {
-    let arguments: Arguments = arguments::read(&Given { words }, alloc)?;
+    let arguments: Arguments = arguments::read(&GivenArguments { words }, alloc)?;
     let mut text = String::new(alloc);
     for word in arguments.words() {
         text.push_str("[")?;

@@ -2,7 +2,7 @@
 use crate::output::text_of;
 use jbench_commands::image::ImageFiles;
 use jbench_commands::run::run;
-use jbench_words::fault::{Status, refuse};
+use jbench_words::fault::{CommandStatus, refuse};
 use jbench_words::text::read_text;
 use jbench_words::words::{RunWords, StopWords};
 use std::alloc::Global;
@@ -67,7 +67,7 @@ impl Write for BrokenWriter {
 fn said_of_no_script(alloc: Global) -> Result<String, Fail> {
     let mut err = Vec::new(alloc);
     let status = match read_text(alloc, BrokenReader) {
-        Ok(_) => Status::Fine,
+        Ok(_) => CommandStatus::Fine,
         Err(fault) => refuse(&mut err, "a.json", &fault)?,
     };
     text_of(alloc, &[], &err, status)

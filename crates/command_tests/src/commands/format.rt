@@ -74,7 +74,7 @@ fn filling_lines(rt: &HostRuntime, measures: &Measures) -> Result<String, Fail> 
     };
     let mut text = String::new(rt.alloc());
     let mut watch = Pieces { text: &mut text };
-    match open_or_make_pair(rt, paths, None) {
+    match open_or_make_pair(rt, paths, false, false) {
         Ok(files) => match make_device(rt.alloc(), UnknownContents, measures, files, &mut watch) {
             Ok(_) => Ok(text),
             Err(unmade) => Err(Fail::from(unmade.error)),

@@ -4,7 +4,7 @@ ghost use Rattle.journal_model.specs.Layout.{IsLayout, numbers_of};
 ghost use Rattle.log_format.specs.Size.{most_tags};
 
 use crate::RowError;
-use crate::spelling::{Measures, UUID, block_of, layout_in};
+use crate::spelling::{SuperblockMeasures, UUID, block_of, layout_in};
 use crate::telling::{
     block_text, bytes_before_zeros, malformed_text, numbers_text, tags_text, text,
 };
@@ -15,7 +15,7 @@ use log_model::Tag;
 use std::alloc::Global;
 
 /// Blocks of 1024 bytes.
-pub(crate) const USUAL: Measures = Measures {
+pub(crate) const USUAL: SuperblockMeasures = SuperblockMeasures {
     block_size: 1024,
     log_blocks: 33,
     wide: false,
@@ -252,7 +252,7 @@ pub fn read_blocks(alloc: Global, given: &str) -> Result<String, RowError> {
     let (home, words) = cut(given, " | ")?;
     let (home, wide) = split_width(home);
     let [home_blocks] = values::<1>(home, "home")?;
-    let measures = Measures { wide, ..USUAL };
+    let measures = SuperblockMeasures { wide, ..USUAL };
     let block = block_of(alloc, &measures, words)?;
     if block.len() != 1024 {
         return Err(RowError::Unread);

@@ -11,7 +11,7 @@ use std::fmt::Write;
 
 /// A device call that changes a device.
 #[derive(Clone, Copy)]
-enum Call {
+enum ChangingCall {
     Write(Area, u64),
     Flush(Area),
 }
@@ -23,7 +23,7 @@ const MOST_CALLS: usize = 64;
 #[derive(Drop)]
 pub(crate) struct NotedCalls<D> {
     device: D,
-    calls: [Option<Call>; MOST_CALLS],
+    calls: [Option<ChangingCall>; MOST_CALLS],
     count: usize,
 }
 
@@ -64,7 +64,7 @@ impl<D: Device + Drop> NotedCalls<D> {
 }
 
 impl<D: Device> NotedCalls<D> {
-    fn note(&mut self, call: Call)
+    fn note(&mut self, call: ChangingCall)
         ensures { self.new.device ≡ self.old.device }
     {
         if let Some(place) = self.calls.get_mut(self.count) {
@@ -84,12 +84,12 @@ impl<D: Device> Device for NotedCalls<D> {
     }
 
     fn write(&mut self, area: Area, n: u64, bytes: &[u8]) -> Result<(), DeviceFault> {
-        self.note(Call::Write(area, n));
+        self.note(ChangingCall::Write(area, n));
         self.device.write(area, n, bytes)
     }
 
     fn flush(&mut self, area: Area) -> Result<(), DeviceFault> {
-        self.note(Call::Flush(area));
+        self.note(ChangingCall::Flush(area));
         self.device.flush(area)
     }
 
@@ -109,10 +109,10 @@ fn name_of(area: Area) -> &'static str {
     }
 }
 
-fn add_call(told: &mut String, call: Call) -> Result<(), AllocError> {
+fn add_call(told: &mut String, call: ChangingCall) -> Result<(), AllocError> {
     match call {
-        Call::Write(area, n) => writeln!(told, "write {} {n}", name_of(area)),
-        Call::Flush(area) => writeln!(told, "flush {}", name_of(area)),
+        ChangingCall::Write(area, n) => writeln!(told, "write {} {n}", name_of(area)),
+        ChangingCall::Flush(area) => writeln!(told, "flush {}", name_of(area)),
     }
 }
 

@@ -1,8 +1,8 @@
 //! Rows of openings of one log with single changed bytes.
 use crate::RowError;
-use crate::logs::{Log, block_at, log_of};
+use crate::logs::{RowLog, block_at, log_of};
 use crate::openings::opening::told_of;
-use crate::openings::tally::Tally;
+use crate::openings::tally::AnswerTally;
 use crate::words::{cut, hex_bytes, next_word, no_word, series, value_of};
 use journal_model::{Block, Items};
 use std::alloc::Global;
@@ -29,20 +29,25 @@ fn changes_of(alloc: Global, line: &str) -> Result<Changes, RowError> {
     })
 }
 
-fn with_block(alloc: Global, log: &Log, place: u64, bytes: Vec<u8>) -> Result<Log, RowError> {
+fn with_block(alloc: Global, log: &RowLog, place: u64, bytes: Vec<u8>) -> Result<RowLog, RowError> {
     let mut blocks = Items::new(alloc);
     for (other, block) in log.blocks.as_slice() {
         blocks.push((*other, block.try_clone()?))?;
     }
     blocks.push((place, Block::new(bytes)?))?;
-    Ok(Log {
+    Ok(RowLog {
         shape: log.shape,
         blocks,
     })
 }
 
 /// The log with this value as byte `at` of a block.
-fn changed(alloc: Global, log: &Log, (place, at): (u64, u64), value: u8) -> Result<Log, RowError> {
+fn changed(
+    alloc: Global,
+    log: &RowLog,
+    (place, at): (u64, u64),
+    value: u8,
+) -> Result<RowLog, RowError> {
     let mut bytes = block_at(alloc, log, place)?.bytes().to_vec(alloc)?;
     *bytes.get_mut(at as usize).ok_or(RowError::Unread)? = value;
     with_block(alloc, log, place, bytes)
@@ -50,10 +55,10 @@ fn changed(alloc: Global, log: &Log, (place, at): (u64, u64), value: u8) -> Resu
 
 fn change_byte(
     alloc: Global,
-    log: &Log,
+    log: &RowLog,
     (place, at): (u64, u64),
     values: &[u8],
-    tally: &mut Tally,
+    tally: &mut AnswerTally,
 ) -> Result<(), RowError> {
     for value in values {
         let told = told_of(alloc, &changed(alloc, log, (place, at), *value)?)?;
@@ -64,10 +69,10 @@ fn change_byte(
 
 fn change_block(
     alloc: Global,
-    log: &Log,
+    log: &RowLog,
     place: u64,
     changes: &Changes,
-    tally: &mut Tally,
+    tally: &mut AnswerTally,
 ) -> Result<(), RowError> {
     let (first, last) = changes.bytes;
     for at in first..=last {
@@ -83,7 +88,7 @@ pub fn changed_bytes(alloc: Global, given: &str) -> Result<String, RowError> {
     let (line, spelled) = cut(given, "\n")?;
     let changes = changes_of(alloc, line)?;
     let log = log_of(alloc, spelled)?;
-    let mut tally = Tally::new(alloc);
+    let mut tally = AnswerTally::new(alloc);
     let (first, last) = changes.blocks;
     for place in first..=last {
         change_block(alloc, &log, place, &changes, &mut tally)?;

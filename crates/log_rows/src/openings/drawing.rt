@@ -40,7 +40,7 @@ impl Draws {
 }
 
 #[derive(Clone, Copy)]
-struct Measures {
+struct DrawnMeasures {
     /// The first block of the ring, and the one after its last.
     first: u64,
     maxlen: u64,
@@ -59,7 +59,7 @@ struct Measures {
 /// A drawn log.
 #[derive(Drop)]
 pub struct RandomLog {
-    measures: Measures,
+    measures: DrawnMeasures,
     /// How many blocks of the ring were written, from the log's start on.
     used: u64,
     /// The words of each block.
@@ -75,15 +75,15 @@ fn draw_sequence(draws: &mut Draws) -> u64 {
     }
 }
 
-impl Measures {
-    fn draw(draws: &mut Draws, wide: bool) -> Measures {
+impl DrawnMeasures {
+    fn draw(draws: &mut Draws, wide: bool) -> DrawnMeasures {
         let maxlen = 17 + draws.below(17);
         let first = 1 + draws.below(maxlen - 16);
         let area = maxlen + draws.below(2);
         let home = 4 + draws.below(12);
         let start = first + draws.below((maxlen - first).max(1));
         let sequence = draw_sequence(draws);
-        Measures {
+        DrawnMeasures {
             first,
             maxlen,
             area,
@@ -109,7 +109,11 @@ impl Measures {
 }
 
 /// A copy: a few bytes at its front and one further on; zeros; or the beginning of a log block.
-fn draw_copy(alloc: Global, draws: &mut Draws, measures: &Measures) -> Result<String, AllocError> {
+fn draw_copy(
+    alloc: Global,
+    draws: &mut Draws,
+    measures: &DrawnMeasures,
+) -> Result<String, AllocError> {
     match draws.below(40) {
         0 => format!(in alloc; "commit={}", measures.number(draws.below(3))),
         1..=3 => Ok(String::new(alloc)),
@@ -130,7 +134,7 @@ fn draw_copy(alloc: Global, draws: &mut Draws, measures: &Measures) -> Result<St
 fn draw_old_block(
     alloc: Global,
     draws: &mut Draws,
-    measures: &Measures,
+    measures: &DrawnMeasures,
     place: u64,
 ) -> Result<String, AllocError> {
     match draws.below(6) {
@@ -149,7 +153,7 @@ fn draw_old_block(
 fn draw_old_blocks(
     alloc: Global,
     draws: &mut Draws,
-    measures: &Measures,
+    measures: &DrawnMeasures,
 ) -> Result<Vec<String>, AllocError> {
     let mut blocks = Vec::new(alloc);
     for place in 0..measures.area {
@@ -169,7 +173,7 @@ fn draw_byte(draws: &mut Draws) -> u64 {
 }
 
 /// A home block; sometimes home lacks it.
-fn draw_home_block(draws: &mut Draws, measures: &Measures) -> u64 {
+fn draw_home_block(draws: &mut Draws, measures: &DrawnMeasures) -> u64 {
     let block = draws.below(measures.home.max(1));
     if draws.once_in(64) {
         block.saturating_add(measures.home)
@@ -181,7 +185,7 @@ fn draw_home_block(draws: &mut Draws, measures: &Measures) -> u64 {
 fn draw_revoke_block(
     alloc: Global,
     draws: &mut Draws,
-    measures: &Measures,
+    measures: &DrawnMeasures,
     tid: u64,
 ) -> Result<String, AllocError> {
     let count = draws.below(4);
@@ -196,7 +200,7 @@ fn draw_revoke_block(
 fn add_tag(
     words: &mut String,
     draws: &mut Draws,
-    measures: &Measures,
+    measures: &DrawnMeasures,
     is_last: bool,
 ) -> Result<(), AllocError> {
     let block = draw_home_block(draws, measures);
@@ -212,7 +216,7 @@ fn add_tag(
 fn draw_descriptor(
     alloc: Global,
     draws: &mut Draws,
-    measures: &Measures,
+    measures: &DrawnMeasures,
     tid: u64,
     count: u64,
 ) -> Result<String, AllocError> {
@@ -226,7 +230,7 @@ fn draw_descriptor(
 fn wrong_field(
     alloc: Global,
     draws: &mut Draws,
-    measures: &Measures,
+    measures: &DrawnMeasures,
 ) -> Result<String, AllocError> {
     let text = match draws.below(9) {
         0 => "@0=00",
@@ -245,11 +249,11 @@ fn wrong_field(
 fn draw_superblock(
     alloc: Global,
     draws: &mut Draws,
-    measures: &Measures,
+    measures: &DrawnMeasures,
     is_clean: bool,
 ) -> Result<String, AllocError> {
     let start = if is_clean { 0 } else { measures.start };
-    let Measures {
+    let DrawnMeasures {
         first,
         maxlen,
         sequence,
@@ -267,7 +271,7 @@ fn draw_superblock(
 impl RandomLog {
     /// The next log of these draws, with block numbers of 64 bits or 32.
     pub fn draw(alloc: Global, draws: &mut Draws, wide: bool) -> Result<RandomLog, AllocError> {
-        let measures = Measures::draw(draws, wide);
+        let measures = DrawnMeasures::draw(draws, wide);
         let mut log = RandomLog {
             measures,
             used: 0,
@@ -362,7 +366,7 @@ impl RandomLog {
 
     /// The text of the log.
     pub fn text(&self, alloc: Global) -> Result<String, AllocError> {
-        let Measures {
+        let DrawnMeasures {
             area,
             home,
             wide,

@@ -1,7 +1,7 @@
 //! Rows of openings.
 use crate::RowError;
-use crate::logs::{Log, device_of, log_of};
-use crate::openings::told::{Told, add_home, report_text};
+use crate::logs::{RowLog, device_of, log_of};
+use crate::openings::told::{ReopeningResult, add_home, report_text};
 use crate::telling::refusal_text;
 use block_device::{Device, FailOnce, MemDevice};
 use journal_model::Area;
@@ -46,11 +46,11 @@ pub(crate) fn opened_or_refused<D: Device + Drop>(
 }
 
 /// The result of opening a log, on a device that lost power with it and whose home is zeros.
-pub fn told_of(alloc: Global, log: &Log) -> Result<Told, RowError> {
+pub fn told_of(alloc: Global, log: &RowLog) -> Result<ReopeningResult, RowError> {
     let (answer, device) = opened_or_refused(alloc, device_of(alloc, log)?)?;
     let writes = device.writes();
     let (again, mut device) = opened_or_refused(alloc, device.crash(&[]))?;
-    Ok(Told {
+    Ok(ReopeningResult {
         answer,
         writes,
         again,

@@ -3,7 +3,7 @@ use crate::RowError;
 use crate::logs::log_of;
 use crate::openings::drawing::{Draws, RandomLog};
 use crate::openings::opening::told_of;
-use crate::openings::tally::Tally;
+use crate::openings::tally::AnswerTally;
 use crate::words::{split_width, values};
 use std::alloc::Global;
 
@@ -20,7 +20,7 @@ fn open_one(
     alloc: Global,
     draws: &mut Draws,
     wide: bool,
-    tally: &mut Tally,
+    tally: &mut AnswerTally,
 ) -> Result<(), RowError> {
     let spelled = RandomLog::draw(alloc, draws, wide)?.text(alloc)?;
     let told = told_of(alloc, &log_of(alloc, spelled.as_str())?)?;
@@ -34,7 +34,7 @@ pub fn random_logs(alloc: Global, given: &str) -> Result<String, RowError> {
     let (given, wide) = split_width(given);
     let [seed, images] = values::<2>(given, "seed images")?;
     let mut draws = Draws::new(seed);
-    let mut tally = Tally::new(alloc);
+    let mut tally = AnswerTally::new(alloc);
     for _ in 0..images {
         open_one(alloc, &mut draws, wide, &mut tally)?;
     }

@@ -1,23 +1,23 @@
 //! What openings of many images answer and leave.
 use crate::RowError;
-use crate::openings::told::Told;
+use crate::openings::told::ReopeningResult;
 use sha2::{Digest, Sha256};
 use std::alloc::{AllocError, Global};
 use std::fmt::Write;
 
 /// How many images had each answer, in the order of the first; and a digest of the whole results.
 #[derive(Drop)]
-pub struct Tally {
+pub struct AnswerTally {
     images: u64,
     writes: u64,
     answers: Vec<(String, u64)>,
     results: Sha256,
 }
 
-impl Tally {
+impl AnswerTally {
     /// No image.
-    pub fn new(alloc: Global) -> Tally {
-        Tally {
+    pub fn new(alloc: Global) -> AnswerTally {
+        AnswerTally {
             images: 0,
             writes: 0,
             answers: Vec::new(alloc),
@@ -26,7 +26,12 @@ impl Tally {
     }
 
     /// Adds an image with this result, whose answer is counted under this name.
-    pub fn add(&mut self, alloc: Global, told: &Told, name: &str) -> Result<(), AllocError> {
+    pub fn add(
+        &mut self,
+        alloc: Global,
+        told: &ReopeningResult,
+        name: &str,
+    ) -> Result<(), AllocError> {
         self.images = self.images.saturating_add(1);
         self.writes = self.writes.saturating_add(told.writes);
         let mut result = String::new(alloc);
@@ -47,7 +52,7 @@ impl Tally {
 
     /// The result of a row that went through these images.
     pub fn text(self, alloc: Global) -> Result<String, RowError> {
-        let Tally {
+        let AnswerTally {
             images,
             writes,
             answers,

@@ -7,7 +7,7 @@ use std::fmt::Write;
 
 /// The result of opening a log, losing power right after, and opening it again.
 #[derive(Drop)]
-pub struct Told {
+pub struct ReopeningResult {
     /// The answer of the first opening.
     pub answer: String,
     /// How many writes it makes.
@@ -20,10 +20,10 @@ pub struct Told {
     pub home: String,
 }
 
-impl Told {
+impl ReopeningResult {
     /// Adds the text of the result.
     pub fn add_to(&self, all: &mut String) -> Result<(), AllocError> {
-        let Told {
+        let ReopeningResult {
             answer,
             writes,
             again,

@@ -1,6 +1,6 @@
 //! Rows of upgrades of empty logs to block numbers of 64 bits.
 use crate::RowError;
-use crate::logs::{Log, block_at, device_of, log_of};
+use crate::logs::{RowLog, block_at, device_of, log_of};
 use crate::openings::calls::NotedCalls;
 use crate::openings::opening::opened_or_refused;
 use crate::telling::refusal_text;
@@ -42,7 +42,7 @@ fn add_changes(told: &mut String, place: u64, old: &[u8], new: &[u8]) -> Result<
     Ok(())
 }
 
-fn changes_text(alloc: Global, log: &Log, device: &mut MemDevice) -> Result<String, RowError> {
+fn changes_text(alloc: Global, log: &RowLog, device: &mut MemDevice) -> Result<String, RowError> {
     let mut told = String::new(alloc);
     for place in 0..log.shape.measures.log_blocks {
         let old = block_at(alloc, log, place)?;
@@ -72,7 +72,7 @@ pub fn upgrades(alloc: Global, given: &str) -> Result<String, RowError> {
 /// an opening finds; also how many calls it made.
 fn broken_upgrade(
     alloc: Global,
-    log: &Log,
+    log: &RowLog,
     (stop, fail): (u64, u64),
     keep: &[u64],
 ) -> Result<(String, u64), RowError> {

@@ -15,7 +15,7 @@ use std::test::Fail;
 use std::thread::Threads;
 use test_logs::{BLOCK_SIZE, formatted, opened};
 use thread_tests::journals::unnamed_on;
-use volume_service::{Client, Gate, OpenGate, Session, serve_clients};
+use volume_service::{Client, Gate, NoInterval, OpenGate, Session, serve_clients};
 
 /// In each round handles stop, and then another session flushes. Round n writes the byte n.
 const ROUNDS: u8 = 3;
@@ -36,7 +36,7 @@ struct Rounds {
 
 /// What a client does in each round.
 #[derive(Clone, Copy, Debug)]
-enum Part {
+enum ClientRole {
     /// Stops a handle for each of so many blocks, from this one on, and waits for none.
     Stops { first: u64, blocks: u64 },
     /// Flushes once so many clients have stopped their handles. Before these start them it may have a handle of its own committed.
@@ -47,7 +47,7 @@ enum Part {
 #[derive(Drop)]
 struct Player<'a> {
     alloc: Global,
-    part: Part,
+    part: ClientRole,
     rounds: &'a Rounds,
 }
 
@@ -61,8 +61,10 @@ impl<J: JournalName, D: Device, R: Record, G: Gate> Client<J, D, R, G> for Playe
         ensures { Unit {0} }
     {
         match self.part {
-            Part::Stops { first, blocks } => self.stop_each(rt, session, first, blocks),
-            Part::Flushes { clients, has_own } => self.flush_each(rt, session, clients, has_own),
+            ClientRole::Stops { first, blocks } => self.stop_each(rt, session, first, blocks),
+            ClientRole::Flushes { clients, has_own } => self.flush_each(
+                rt, session, clients, has_own,
+            ),
         }
     }
 }
@@ -200,7 +202,7 @@ fn play<J: JournalName + Send + Sync, R: Threads + Wait + Sync>(
     requires name { unnamed.name ≡ J.name }
 {
     let (journal, seat) = unnamed.named::<J>();
-    let served = serve_clients(rt, alloc, &journal, seat, players, &OpenGate);
+    let served = serve_clients(rt, alloc, &journal, seat, players, &OpenGate, &NoInterval);
     let parts = journal.into_single().into_parts();
     let mut device = opened(alloc, parts.device.crash(&[]))?.into_device();
     Ok((served?.answers, has_all(&mut device, blocks)))
@@ -208,7 +210,7 @@ fn play<J: JournalName + Send + Sync, R: Threads + Wait + Sync>(
 
 fn players<'a>(
     alloc: Global,
-    parts: &[Part],
+    parts: &[ClientRole],
     rounds: &'a Rounds,
 ) -> Result<Vec<Player<'a>>, AllocError> {
     let mut players = Vec::new(alloc);
@@ -226,7 +228,7 @@ fn players<'a>(
 fn run<R: Threads + Wait + Sync>(
     rt: &R,
     alloc: Global,
-    parts: &[Part],
+    parts: &[ClientRole],
     blocks: u64,
 ) -> Result<(Vec<Told>, bool), JournalError> {
     let rounds = Rounds {
@@ -252,11 +254,11 @@ fn expected(alloc: Global, clients: usize, last: u32) -> Result<Vec<Told>, Alloc
 #[test]
 fn a_flush_without_handles_covers_those_of_another(rt: HostRuntime) -> Result<(), Fail> {
     let parts = [
-        Part::Stops {
+        ClientRole::Stops {
             first: 0,
             blocks: 2,
         },
-        Part::Flushes {
+        ClientRole::Flushes {
             clients: 1,
             has_own: false,
         },
@@ -270,11 +272,11 @@ fn a_flush_without_handles_covers_those_of_another(rt: HostRuntime) -> Result<()
 #[test]
 fn a_flush_covers_handles_later_than_its_own(rt: HostRuntime) -> Result<(), Fail> {
     let parts = [
-        Part::Flushes {
+        ClientRole::Flushes {
             clients: 1,
             has_own: true,
         },
-        Part::Stops {
+        ClientRole::Stops {
             first: 0,
             blocks: 1,
         },
@@ -287,15 +289,15 @@ fn a_flush_covers_handles_later_than_its_own(rt: HostRuntime) -> Result<(), Fail
 #[test]
 fn a_flush_covers_several_sessions(rt: HostRuntime) -> Result<(), Fail> {
     let parts = [
-        Part::Stops {
+        ClientRole::Stops {
             first: 0,
             blocks: 1,
         },
-        Part::Flushes {
+        ClientRole::Flushes {
             clients: 2,
             has_own: false,
         },
-        Part::Stops {
+        ClientRole::Stops {
             first: 1,
             blocks: 1,
         },
@@ -316,11 +318,11 @@ fn has_all_rounds(told: &Told) -> bool {
 #[test]
 fn a_flush_covers_handles_of_several_transactions(rt: HostRuntime) -> Result<(), Fail> {
     let parts = [
-        Part::Stops {
+        ClientRole::Stops {
             first: 0,
             blocks: 8,
         },
-        Part::Flushes {
+        ClientRole::Flushes {
             clients: 1,
             has_own: true,
         },

@@ -13,7 +13,7 @@ use std::test::Fail;
 use std::thread::Threads;
 use test_logs::formatted;
 use thread_tests::journals::unnamed_on;
-use volume_service::{Gate, OpenGate, Session, Task, do_tasks};
+use volume_service::{Gate, NoInterval, OpenGate, Session, Task, do_tasks};
 
 /// Blocks of home.
 const HOME_BLOCKS: u64 = 64;
@@ -154,7 +154,7 @@ fn run<R: Threads + Wait + Sync>(
     }
     let device: MemDevice = formatted(alloc, LOG_BLOCKS, HOME_BLOCKS)?;
     let unnamed = unnamed_on::<MemDevice, Unrecorded>(alloc, device)?;
-    match do_tasks(rt, alloc, unnamed, tasks, &OpenGate) {
+    match do_tasks(rt, alloc, unnamed, tasks, &OpenGate, &NoInterval) {
         Ok(done) => Ok((done.answers, done.parts.committed, done.closed.is_ok())),
         Err((_, e)) => Err(e),
     }

@@ -79,6 +79,6 @@ returns-clause-taken g c = c.loop-done.invariant.taken
 
 -- all is trimmed
 pub returns-clause-blocks : goal.returns-clause-blocks
-returns-clause-blocks g c =
+returns-clause-blocks g c = λ _.
     subst (λ (n : ℕ). TrimsBlocks g.D.Device.state g.D.Device.honest g.J.JournalName.name c.args.first c.loop-done.tickets.items n)
     (omega (arith, c.loop-done.invariant.within, c.loop-done-test.false)) c.loop-done.invariant.trimmed

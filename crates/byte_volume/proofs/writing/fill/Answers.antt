@@ -2,7 +2,7 @@ use Rattle.std.proofs.Common.{◌+◌, ◌∙◌, ap, arith}
 use Rattle.std.proofs.lemmas.Grind.{common_steps}
 use Rattle.std.proofs.lemmas.Result.{err_from_is_err_and}
 use Rattle.locked_journal.specs.Known.{HandleKnown}
-use Rattle.byte_volume.proofs.Blocks.{by_journal}
+use Rattle.byte_volume.proofs.Blocks.{refused_by_journal}
 use Rattle.byte_volume.proofs.Refusals.{credits_left}
 use Rattle.byte_volume.proofs.TicketLists.{any_err}
 use Rattle.byte_volume.proofs.WholeBlocks.{length-block}
@@ -26,7 +26,7 @@ returns-in_err-write-clause-err g c =
       b = c.args.first + c.loop-k.k;
       its = (omega arith, omega (arith, c.loop-k-test.true));
       credit = omega (arith, c.loop-k-test.true, c.loop-k.invariant.left);
-      refused = by_journal _ _ _ (length-block c.args.size c.loop-k.k c.args.bytes.now c.loop-k-test.true ∙ c.requires.block) c.in_err-write.ensures.why;
+      refused = refused_by_journal _ _ _ (length-block c.args.size c.loop-k.k c.args.bytes.now c.loop-k-test.true ∙ c.requires.block) c.in_err-write.ensures.why;
     })
 
 pub returns-in_err-write-clause-left : goal.returns-in_err-write-clause-left

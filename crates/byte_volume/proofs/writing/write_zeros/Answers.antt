@@ -1,6 +1,6 @@
 use Rattle.std.proofs.Common.{replicate}
-use Rattle.byte_volume.proofs.Pieces.{nothing, one_piece, part_of_one, zeros_not_within}
-use Rattle.byte_volume.proofs.TicketLists.{none_noted, noted_either}
+use Rattle.byte_volume.proofs.Pieces.{by_one, nothing, some_by_one, zeros_not_within}
+use Rattle.byte_volume.proofs.TicketLists.{any_err, none_noted, noted_added, noted_maybe}
 use Rattle.byte_volume.proofs.writing.write_zeros.Goals as goal
 
 -- the range ends past 2^64
@@ -12,19 +12,26 @@ returns-then-is_none-clause-noted g c = none_noted c.args.stopped.now c.clear.ne
 
 -- one handle wrote all zeros
 pub returns-then-lie_within-clause-once : goal.returns-then-lie_within-clause-once
-returns-then-lie_within-clause-once g c =
-    one_piece g.D.Device.state g.D.Device.honest g.J.JournalName.name _ _ c.args.offset c.zero_once.new.stopped (replicate c.args.count 0) c.clear.new.self.items c.zero_once.new.tickets.items c.zero_once.result
-    c.clear.ensures.items c.zero_once.ensures.once
-
-pub returns-then-lie_within-clause-left : goal.returns-then-lie_within-clause-left
-returns-then-lie_within-clause-left g c =
-    part_of_one g.D.Device.state g.D.Device.honest g.J.JournalName.name _ c.args.offset c.zero_once.new.stopped (replicate c.args.count 0) c.clear.new.self.items c.zero_once.new.tickets.items c.zero_once.result
-    c.clear.ensures.items c.zero_once.ensures.left
+returns-then-lie_within-clause-once g c = λ _.
+    by_one g.D.Device.state g.D.Device.honest g.J.JournalName.name _ _ c.args.offset c.zero_once.new.stopped (replicate c.args.count 0) c.clear.new.self.items c.zero_once.new.tickets.items
+    c.clear.ensures.items c.in_ok-zero_once.ensures.once
 
 pub returns-then-lie_within-clause-noted : goal.returns-then-lie_within-clause-noted
 returns-then-lie_within-clause-noted g c =
-    noted_either _ _ c.args.stopped.now c.zero_once.new.stopped c.clear.new.self.items c.zero_once.new.tickets.items c.zero_once.result c.zero_once.ensures.kept
-    (none_noted c.args.stopped.now c.clear.new.self.items c.clear.ensures.items) c.zero_once.ensures.once c.zero_once.ensures.left
+    noted_added _ c.args.stopped.now c.zero_once.new.stopped c.clear.new.self.items c.zero_once.new.tickets.items c.zero_once.ensures.kept
+    (none_noted c.args.stopped.now c.clear.new.self.items c.clear.ensures.items) c.in_ok-zero_once.ensures.once
+
+-- or some of them
+pub returns-in_err-zero_once-clause-left : goal.returns-in_err-zero_once-clause-left
+returns-in_err-zero_once-clause-left g c =
+    any_err c.from_residual.result
+    (some_by_one g.D.Device.state g.D.Device.honest g.J.JournalName.name _ c.args.offset c.zero_once.new.stopped (replicate c.args.count 0) c.clear.new.self.items
+    c.zero_once.new.tickets.items c.clear.ensures.items c.in_err-zero_once.ensures.left)
+
+pub returns-in_err-zero_once-clause-noted : goal.returns-in_err-zero_once-clause-noted
+returns-in_err-zero_once-clause-noted g c =
+    noted_maybe _ c.args.stopped.now c.zero_once.new.stopped c.clear.new.self.items c.zero_once.new.tickets.items c.zero_once.ensures.kept
+    (none_noted c.args.stopped.now c.clear.new.self.items c.clear.ensures.items) c.in_err-zero_once.ensures.left
 
 -- one handle has no credits for them
 pub returns-clause-once : goal.returns-clause-once

@@ -1,6 +1,6 @@
 use Rattle.std.proofs.Common.{◌+◌, arith, refl, rules}
 use Rattle.std.proofs.lemmas.Result.{err_from_is_err_and}
-use Rattle.byte_volume.proofs.Pieces.{all_zeros, more_zeros, no_byte, some_zeros}
+use Rattle.byte_volume.proofs.Pieces.{all_zeros, more_zeros, no_byte, some_zeros, zeros_so_far}
 use Rattle.byte_volume.proofs.Refusals.{piece_refused}
 use Rattle.byte_volume.proofs.TicketLists.{any_err, none_noted, noted_added, noted_maybe}
 use Rattle.byte_volume.proofs.WholeBlocks.{piece_ends, piece_within}
@@ -41,6 +41,12 @@ zero_once-requires-clause-credits g c =
     rw (← c.block_size.ensures.size, ← c.capacity.ensures.capacity) (piece_within _ _ (c.args.offset + c.loop-done.done) _ _ c.block_size.ensures.some
     c.piece_length-most.ensures.full (omega (arith, c.min-some.ensures)))
 
+-- whoever asked has left
+pub returns-in-Some-clause-early : goal.returns-in-Some-clause-early
+returns-in-Some-clause-early g c =
+    zeros_so_far g.D.Device.state g.D.Device.honest g.J.JournalName.name _ c.args.offset c.loop-done.done c.args.count c.loop-done.tickets.items c.loop-done.invariant.within
+    c.loop-done.invariant.pieces
+
 -- one piece was refused
 pub returns-in_err-zero_once-clause-err : goal.returns-in_err-zero_once-clause-err
 returns-in_err-zero_once-clause-err g c =
@@ -72,6 +78,6 @@ returns-clause-taken g c = c.loop-done.invariant.taken
 
 -- all is written
 pub returns-clause-pieces : goal.returns-clause-pieces
-returns-clause-pieces g c =
+returns-clause-pieces g c = λ _.
     all_zeros g.D.Device.state g.D.Device.honest g.J.JournalName.name _ c.args.offset c.loop-done.done c.args.count c.loop-done.tickets.items
     (omega (arith, c.loop-done.invariant.within, c.loop-done-test.false)) c.loop-done.invariant.pieces

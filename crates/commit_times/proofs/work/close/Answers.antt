@@ -10,6 +10,6 @@ pub returns-in-Ok : goal.returns-in-Ok
 returns-in-Ok g c = λ honest. record {
   sealed = closing c.args.journal.journal.front;
   each = λ image leaves.
-      subst (λ (s : Shape). IsClosed s (closing c.args.journal.journal.front) image) (c.recall_invariant.ensures.shape ∙ sym c.in-Ok.ensures.shape)
-      (subst (λ (ts : History). IsClosed c.args.journal.journal.engine.shape ts image) c.in-Ok.ensures.ok.0 (c.in-Ok.ensures.closed honest image leaves));
+      subst (λ (s : Shape). IsClosed s (closing c.args.journal.journal.front) image) (c.recall_invariant.ensures.shape ∙ sym c.in-Ok.ensures.left.shape)
+      (subst (λ (ts : History). IsClosed c.args.journal.journal.engine.shape ts image) c.in-Ok.ensures.all (c.in-Ok.ensures.clean honest image leaves));
 }

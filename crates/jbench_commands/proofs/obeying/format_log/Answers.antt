@@ -6,6 +6,7 @@ use Rattle.jbench_commands.proofs.obeying.format_log.Goals as goal
 -- over two files, of which the log's is new if it had to be
 pub returns-in-Ok-make_beside_home-clause-done : goal.returns-in-Ok-make_beside_home-clause-done
 returns-in-Ok-make_beside_home-clause-done g c =
-    IfOk-weaker c.format_device.result _ _ (λ status made fine. made fine true
-    (over-told c.args.words.now.has_to_be_new true c.in-Ok.files.pair c.in-Ok-make_beside_home.device c.in-Ok-make_beside_home.ensures
-    c.in-Ok.ensures (λ new keep. not-both keep))) c.format_device.ensures.made
+    let over = over-told c.args.words.now.has_to_be_new true c.in-Ok.files.pair c.in-Ok-make_beside_home.device c.in-Ok-make_beside_home.ensures
+    c.in-Ok.ensures.new (λ new keep. not-both keep) in
+    IfOk-weaker c.format_device.result _ _ (λ status made fine.
+    record { old = c.in-Ok-make_beside_home.device; over = over; new = (made fine).new; did = (made fine).did }) c.format_device.ensures.made

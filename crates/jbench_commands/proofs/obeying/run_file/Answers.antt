@@ -1,17 +1,15 @@
-use Rattle.std.proofs.Common.{◌∙◌}
+use Rattle.std.proofs.Common.{◌∙◌, Bool, List, ℕ, subst}
+use Rattle.std.specs.Prelude.{is_some, true}
 use Rattle.std.proofs.lemmas.Result.{IfOk-weaker}
-use Rattle.jbench_commands.proofs.Obeyed.{run-alone, run-with}
+use Rattle.jbench_commands.specs.Runs.{HasRun, runs_told}
 use Rattle.jbench_commands.proofs.obeying.run_file.Goals as goal
 
--- without an image
-pub returns-in_default-clause-done : goal.returns-in_default-clause-done
-returns-in_default-clause-done g c =
-    IfOk-weaker c.run_opened.result _ _
-    (λ status run fine. let did = run fine in (did.0 ∙ c.in-Ok.ensures, run-alone c.args.words.now.image c.in_default.not-Some did.1)) c.run_opened.ensures.done
-
--- with an image
-pub returns-in-Ok-open_or_make_pair-clause-done : goal.returns-in-Ok-open_or_make_pair-clause-done
-returns-in-Ok-open_or_make_pair-clause-done g c =
-    IfOk-weaker c.run_opened-in-Ok-open_or_make_pair.result _ _
-    (λ status run fine. let did = run fine in (did.0 ∙ c.in-Ok.ensures, run-with c.args.words.now.image c.in-Some.image c.in-Some.is did.1))
-    c.run_opened-in-Ok-open_or_make_pair.ensures.done
+-- the text that came was run, and its image copied where the words name files for it
+pub returns-in-Ok-read-clause-done : goal.returns-in-Ok-read-clause-done
+returns-in-Ok-read-clause-done g c =
+    IfOk-weaker c.run.result _ _
+    (λ status run fine. (
+      c.in-Ok-read.ensures.path ∙ c.in-Ok.ensures,
+      subst (λ (copied : Bool). HasRun (runs_told copied) c.read.new.self.bytes.items c.args.words.now true) c.in-Ok-open_image.ensures
+          (subst (λ (script : List ℕ). HasRun (runs_told (is_some c.in-Ok-open_image.image)) script c.args.words.now true) c.bytes.ensures (run fine)),
+    )) c.run.ensures.run

@@ -1,4 +1,4 @@
-use Rattle.std.proofs.Common.{Bool, refl, sym, ap, ◌∙◌}
+use Rattle.std.proofs.Common.{Bool, refl, rules, sym, ap, ◌∙◌}
 use Rattle.std.proofs.lemmas.Bool.{true≢false}
 use Rattle.journal_world.specs.Journal.{Journal}
 use Rattle.block_device.proofs.OneCall.{call-as, no-call}
@@ -8,37 +8,42 @@ use Rattle.journal_steps.proofs.Directs.{agrees-direct, agrees-unwritten, during
 use Rattle.journal_steps.proofs.Turning.{opens-now}
 use Rattle.journal_steps.proofs.steps.write_direct.Goals as goal
 
-pub returns-then-is_aborted-clause-err : goal.returns-then-is_aborted-clause-err
-returns-then-is_aborted-clause-err g c =
-    (DirectWriteRefused.WriteAborted (sym c.is_aborted.ensures ∙ c.if-is_aborted.true) refl)
-
 -- if no call is made, what holds now holds at the one moment
-pub returns-then-is_aborted-clause-device : goal.returns-then-is_aborted-clause-device
-returns-then-is_aborted-clause-device g c =
-    no-call (λ honest. during-unwritten _ _ _ _ (opens-now _ _ c.requires.agrees (c.recall_invariant.ensures.opens honest)))
+pub returns-then-is_aborted-clause-writes : goal.returns-then-is_aborted-clause-writes
+returns-then-is_aborted-clause-writes g c = record {
+  right = tt;
+  ok = tt;
+  err = DirectWriteRefused.WriteAborted (sym c.is_aborted.ensures ∙ c.if-is_aborted.true) refl;
+  no_fault = tt;
+  device = no-call (λ honest. during-unwritten _ _ _ _ (opens-now _ _ c.requires.agrees (c.recall_invariant.ensures.opens honest)));
+}
 
-pub returns-then-not-may_touch-clause-device : goal.returns-then-not-may_touch-clause-device
-returns-then-not-may_touch-clause-device g c =
-    no-call (λ honest. during-unwritten _ _ _ _ (opens-now _ _ c.requires.agrees (c.recall_invariant.ensures.opens honest)))
-
-pub returns-then-not-is_untouched-clause-device : goal.returns-then-not-is_untouched-clause-device
-returns-then-not-is_untouched-clause-device g c =
-    no-call (λ honest. during-unwritten _ _ _ _ (opens-now _ _ c.requires.agrees (c.recall_invariant.ensures.opens honest)))
-
-pub returns-then-not-may_touch-clause-err : goal.returns-then-not-may_touch-clause-err
-returns-then-not-may_touch-clause-err g c =
+pub returns-then-not-may_touch-clause-writes : goal.returns-then-not-may_touch-clause-writes
+returns-then-not-may_touch-clause-writes g c =
     let running = sym c.is_aborted.ensures ∙ c.if-is_aborted.false in
     let no = λ (may : MayTouch c.args.front.now c.args.block). true≢false (sym (c.may_touch.ensures.1 may) ∙ c.if-not-may_touch.true) in
-    (DirectWriteRefused.WriteOutside running no refl)
+    record {
+      right = tt;
+      ok = tt;
+      err = DirectWriteRefused.WriteOutside running no refl;
+      no_fault = tt;
+      device = no-call (λ honest. during-unwritten _ _ _ _ (opens-now _ _ c.requires.agrees (c.recall_invariant.ensures.opens honest)));
+    }
 
-pub returns-then-not-is_untouched-clause-err : goal.returns-then-not-is_untouched-clause-err
-returns-then-not-is_untouched-clause-err g c =
+pub returns-then-not-is_untouched-clause-writes : goal.returns-then-not-is_untouched-clause-writes
+returns-then-not-is_untouched-clause-writes g c =
     let j : Journal = record { front = c.args.front.now; engine = c.args.engine.now.engine } in
     let running = sym c.is_aborted.ensures ∙ c.if-is_aborted.false in
     let may = c.may_touch.ensures.0 c.if-not-may_touch.false in
     let no = λ (right : MayWriteDirectly j c.args.block).
     true≢false (sym (c.is_untouched.ensures.1 (right-gives j c.requires.agrees c.recall_invariant.ensures.plain c.args.block right).0) ∙ c.if-not-is_untouched.true) in
-    (DirectWriteRefused.WriteNotDirect running may no refl)
+    record {
+      right = tt;
+      ok = tt;
+      err = DirectWriteRefused.WriteNotDirect running may no refl;
+      no_fault = tt;
+      device = no-call (λ honest. during-unwritten _ _ _ _ (opens-now _ _ c.requires.agrees (c.recall_invariant.ensures.opens honest)));
+    }
 
 pub returns-in-Ok-clause-agrees : goal.returns-in-Ok-clause-agrees
 returns-in-Ok-clause-agrees g c = agrees-direct _ _ _ _ _ _ c.requires.agrees c.in-Ok.ensures.ok
@@ -50,21 +55,28 @@ returns-in-Err-clause-agrees g c =
     let told = c.learn.ensures ∙ ap (λ (aborted : Bool). record f { aborted = aborted }) c.is_aborted-in-Err.ensures in
     agrees-unwritten g.D.Device.state f _ _ _ _ _ _ c.requires.agrees told c.in-Err.ensures.err
 
-pub returns-in-Ok-clause-right : goal.returns-in-Ok-clause-right
-returns-in-Ok-clause-right g c =
+pub returns-in-Ok-clause-writes : goal.returns-in-Ok-clause-writes
+returns-in-Ok-clause-writes g c =
     let j : Journal = record { front = c.args.front.now; engine = c.args.engine.now.engine } in
-    (right-from j c.requires.agrees c.recall_invariant.ensures.plain c.args.block (c.is_untouched.ensures.0 c.if-not-is_untouched.false) c.in-Ok.ensures.may.2)
+    record {
+      right = right-from j c.requires.agrees c.recall_invariant.ensures.plain c.args.block (c.is_untouched.ensures.0 c.if-not-is_untouched.false) c.in-Ok.ensures.may.2;
+      ok = search rules;
+      err = tt;
+      no_fault = c.in-Ok.ensures.no_fault;
+      device = call-as (each-direct _ _ _ _ _ c.requires.agrees) c.write_direct.ensures.device;
+    }
 
-pub returns-in-Ok-clause-device : goal.returns-in-Ok-clause-device
-returns-in-Ok-clause-device g c = call-as (each-direct _ _ _ _ _ c.requires.agrees) c.write_direct.ensures.device
-
-pub returns-in-Err-clause-device : goal.returns-in-Err-clause-device
-returns-in-Err-clause-device g c = call-as (each-direct _ _ _ _ _ c.requires.agrees) c.write_direct.ensures.device
-
-pub returns-in-Err-clause-err : goal.returns-in-Err-clause-err
-returns-in-Err-clause-err g c =
+pub returns-in-Err-clause-writes : goal.returns-in-Err-clause-writes
+returns-in-Err-clause-writes g c =
     let f = c.args.front.now in
     let running = sym c.is_aborted.ensures ∙ c.if-is_aborted.false in
     let told = c.learn.ensures ∙ ap (λ (aborted : Bool). record f { aborted = aborted }) c.is_aborted-in-Err.ensures in
-    (refused-direct g.D.Device.state f _ _ _ _ _ _ c.requires.agrees c.recall_invariant.ensures.plain running (c.may_touch.ensures.0 c.if-not-may_touch.false)
-    (c.is_untouched.ensures.0 c.if-not-is_untouched.false) told c.in-Err.ensures.err)
+    record {
+      right = tt;
+      ok = tt;
+      err =
+          refused-direct g.D.Device.state f _ _ _ _ _ _ c.requires.agrees c.recall_invariant.ensures.plain running (c.may_touch.ensures.0 c.if-not-may_touch.false)
+          (c.is_untouched.ensures.0 c.if-not-is_untouched.false) told c.in-Err.ensures.err;
+      no_fault = tt;
+      device = call-as (each-direct _ _ _ _ _ c.requires.agrees) c.write_direct.ensures.device;
+    }

@@ -1,7 +1,4 @@
 use Rattle.std.proofs.lemmas.Result.{IfOk-weaker}
-use Rattle.journal_model.specs.Disk.{Disk, Shape}
-use Rattle.script_client.specs.Ended.{IsEnded}
-use Rattle.script_client.specs.Told.{IsLedTo}
 use Rattle.script_client.proofs.Closing.{ended-weaker, led-weaker}
 use Rattle.script_client.proofs.performing.apply.Goals as goal
 

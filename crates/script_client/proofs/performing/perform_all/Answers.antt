@@ -2,7 +2,7 @@ use Rattle.std.proofs.Common.{◌∙◌, refl}
 use Rattle.std.proofs.lemmas.Bool.{false≢true}
 use Rattle.script_client.specs.Outcomes.{IsLast}
 use Rattle.script_client.specs.Performed.{HasDone}
-use Rattle.script_client.proofs.InOrder.{all-performed, last-performed, none-performed, one-more-performed}
+use Rattle.script_client.proofs.InOrder.{last-performed, none-performed, one-more-performed}
 use Rattle.script_client.proofs.performing.perform_all.Goals as goal
 
 -- no operation was performed yet

@@ -1,5 +1,5 @@
 use Rattle.std.proofs.Common.{subst, sym}
-use Rattle.script_run.specs.declared.verdict.Record.{Record}
+use Rattle.script_run.specs.declared.verdict.RunRecord.{RunRecord}
 use Rattle.script_run.specs.Left.{IsEndOf}
 use Rattle.script_run.proofs.running.end_of_run.Goals as goal
 
@@ -8,7 +8,7 @@ pub returns : goal.returns
 returns g c =
     let stopped = c.in_ok-stopped.stopped in
     let left = c.crash.result in
-    subst (λ (r : Record). IsEndOf c.args.script.now c.args.stop c.args.failing_call left.image r.sealed.items r.acknowledged c.in-Ok.named) (sym c.crash.ensures.recorded)
+    subst (λ (r : RunRecord). IsEndOf c.args.script.now c.args.stop c.args.failing_call left.image r.sealed.items r.acknowledged c.in-Ok.named) (sym c.crash.ensures.recorded)
     (record {
       device = stopped.device;
       led = c.in_ok-stopped.ensures.led;

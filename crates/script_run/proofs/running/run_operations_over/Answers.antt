@@ -1,5 +1,5 @@
 use Rattle.std.proofs.Common.{sym, subst}
-use Rattle.script_run.specs.declared.verdict.Record.{Record}
+use Rattle.script_run.specs.declared.verdict.RunRecord.{RunRecord}
 use Rattle.script_run.specs.Left.{HasRun}
 use Rattle.script_run.proofs.running.run_operations_over.Goals as goal
 
@@ -11,6 +11,6 @@ returns-then-is_stopped_by-clause-outcomes g c =
       lines = writes.lines;
       said = writes.said;
       are =
-          subst (λ (r : Record). HasRun c.args.opened c.args.operations.now c.args.after c.stopped_of-stopped.result.device r.sealed.items r.acknowledged writes.lines)
+          subst (λ (r : RunRecord). HasRun c.args.opened c.args.operations.now c.args.after c.stopped_of-stopped.result.device r.sealed.items r.acknowledged writes.lines)
           (sym c.stopped_of-stopped.ensures.recorded) (record { over = c.in_ok-performed.performed.device; performs = writes.are; behind = c.stopped_of-stopped.ensures.behind });
     }

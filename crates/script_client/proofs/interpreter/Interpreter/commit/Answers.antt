@@ -1,6 +1,6 @@
 use Rattle.std.proofs.Common.{◌≡◌, ap, arith, inl, inr, refl}
 use Rattle.std.proofs.lemmas.Bool.{false≢true}
-use Rattle.script_client.specs.declared.outcome.Outcome.TheVariants.{Transaction}
+use Rattle.script_client.specs.declared.outcome.OperationOutcome.TheVariants.{Transaction}
 use Rattle.script_client.specs.Performed.{most_turns}
 use Rattle.script_client.specs.Steps.Steps.{NoStep, OneMore}
 use Rattle.script_client.proofs.Turning.{still-same}

@@ -1,6 +1,6 @@
 use Rattle.std.proofs.Common.{◌∙◌, ap, inl, inr, refl, set}
 use Rattle.group_commit.specs.Values.{TicketValue}
-use Rattle.script_client.specs.declared.outcome.Outcome.TheVariants.{Skipped, Transaction}
+use Rattle.script_client.specs.declared.outcome.OperationOutcome.TheVariants.{Skipped, Transaction}
 use Rattle.script_client.specs.declared.slots.Slot.TheVariants.{Open, Stopped}
 use Rattle.script_client.specs.Names.{stands_for}
 use Rattle.script_client.specs.Shown.{ticket_of}

@@ -1,5 +1,5 @@
 use Rattle.std.proofs.Common.{◌∙◌, refl}
-use Rattle.script_client.specs.declared.outcome.Outcome.TheVariants.{Skipped}
+use Rattle.script_client.specs.declared.outcome.OperationOutcome.TheVariants.{Skipped}
 use Rattle.script_client.specs.declared.slots.Slot.TheVariants.{Stopped, Waited}
 use Rattle.script_client.specs.Names.{stands_for}
 use Rattle.script_client.proofs.TakenNames.{else-waited, may-return, may-stand, put-back, put-there}

@@ -1,7 +1,7 @@
 use Rattle.std.specs.Prelude.{Option, Some, None}
 use Rattle.std.proofs.Common.{refl, subst}
 use Rattle.std.proofs.lemmas.Result.{on_ok_weaker}
-use Rattle.script_sweep.specs.declared.judging.Found.{Found}
+use Rattle.script_sweep.specs.declared.judging.ImageFinding.{ImageFinding}
 use Rattle.script_sweep.specs.Sweeping.{IsJudged}
 use Rattle.script_sweep.proofs.judging.Ran.sweep_image.Goals as goal
 
@@ -13,7 +13,7 @@ returns-in-Some g c =
       found = Some c.in-Some.found;
       judged = c.judge_image.new.not_right;
       is_judged =
-          subst (λ (found : Option Found). IsJudged g.J.Swept.keeps c.args.self.now.stopped.now c.args.self.now.named.now c.args.image.now c.args.counts.now.not_right found c.judge_image.new.not_right) c.in-Some.is
+          subst (λ (found : Option ImageFinding). IsJudged g.J.Swept.keeps c.args.self.now.stopped.now c.args.self.now.named.now c.args.image.now c.args.counts.now.not_right found c.judge_image.new.not_right) c.in-Some.is
           c.in_ok-found.ensures;
       openings = openings;
     })
@@ -25,7 +25,7 @@ returns-in-None g c = record {
   found = None;
   judged = c.judge_image.new.not_right;
   is_judged =
-      subst (λ (found : Option Found). IsJudged g.J.Swept.keeps c.args.self.now.stopped.now c.args.self.now.named.now c.args.image.now c.args.counts.now.not_right found c.judge_image.new.not_right) c.in-None.is
+      subst (λ (found : Option ImageFinding). IsJudged g.J.Swept.keeps c.args.self.now.stopped.now c.args.self.now.named.now c.args.image.now c.args.counts.now.not_right found c.judge_image.new.not_right) c.in-None.is
       c.in_ok-found.ensures;
   openings = refl;
 }

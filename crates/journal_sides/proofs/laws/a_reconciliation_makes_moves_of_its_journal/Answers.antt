@@ -1,5 +1,0 @@
-use Rattle.journal_sides.proofs.Moving.{reconciler-moves}
-use Rattle.journal_sides.proofs.laws.a_reconciliation_makes_moves_of_its_journal.Goals as goal
-
-pub returns : goal.returns
-returns g c = λ front mid engine reconciles. reconciler-moves g.D.Device.state front engine mid reconciles

@@ -1,0 +1,14 @@
+use Rattle.std.proofs.Common.{◌≡◌}
+use Rattle.journal_model.specs.declared.refusal.JournalError.{JournalError}
+use Rattle.journal_front.specs.Front.{TouchRefused}
+use Rattle.journal_steps.proofs.Kept.{kept-write}
+use Rattle.journal_world.specs.Front.FrontEvent.{WriteBlock}
+use Rattle.journal_steps.proofs.LegalSteps.{kept_legal-touch}
+use Rattle.locked_journal.proofs.front_side.FrontSideFrontCalls.write.Goals as goal
+
+-- Front and engine still agree.
+pub invariant_of-self : goal.invariant_of-self
+invariant_of-self g c =
+    let f = c.self.inside.front in
+    let handle = c.args.handle.now in
+    record { agrees = kept-write f c.write.new.self c.self.inside.reconciled.engine c.self.invariant.agrees (λ (e : JournalError). TouchRefused f handle c.args.block e) (λ (e : JournalError). c.write.new.handle ≡ handle) c.write.result handle.number c.args.block c.args.bytes.now c.self.invariant.plain.layout.1 c.write.ensures.ok c.write.ensures.err; plain = c.self.invariant.plain; shape = c.self.invariant.shape; legal = λ honest. kept_legal-touch f c.write.new.self (c.self.invariant.legal honest) (λ (e : JournalError). TouchRefused f handle c.args.block e) (λ (e : JournalError). c.write.new.handle ≡ handle) c.write.result (WriteBlock handle.number c.args.block c.args.bytes.now) c.write.ensures.ok c.write.ensures.err }
