@@ -205,11 +205,12 @@ pub(crate) const THREADS: Usage = Usage {
     name: "threads",
     about: "Runs the clients of a script, each in a thread of its own over one journal, and judges what came of them",
     after_help: "\
-The journal is over a disk in memory. One thread commits, so that handles of
-several clients come to one commit, and writes home after commits; another makes
-room where the log has none. When all clients have ended it prints 'clients N',
-'handles N' and 'receipts N': how many clients, starts and waits the script has.
-Four verdicts follow, each 'ok' or 'false':
+The journal is over a disk in memory. A client that waits commits for all that
+do, so handles of several clients come to one commit, and writes home after it.
+Threads beside the clients do the same for handles that nobody waits for. When
+all clients have ended it prints 'clients N', 'handles N' and 'receipts N': how
+many clients, starts and waits the script has. Four verdicts follow, each 'ok'
+or 'false':
   verdict credits   the held credits are those of the entries of the running
                     transaction
   verdict receipts  each handle that was waited for is in the record, in a

@@ -20,7 +20,15 @@ use std::{fs, io};
 /// Handles of each thread.
 const HANDLES: u64 = 20;
 
-/// Writes blocks from `first` on, each through its own handle. Returns the last ticket.
+/// Whether the ticket's handle has a greater number than that of an earlier ticket, and no earlier transaction.
+fn follows<J: JournalName>(ticket: &SharedTicket<J>, before: &Option<SharedTicket<J>>) -> bool {
+    match before {
+        Some(before) => before.handle().0 < ticket.handle().0 && before.tid().0 <= ticket.tid().0,
+        None => true,
+    }
+}
+
+/// Writes blocks from `first` on, each through its own handle, which is started after the one before. Returns the last ticket.
 fn write_all<J: JournalName, D: Device, R: Wait>(
     rt: &R,
     journal: &Journal<J, D>,
@@ -33,15 +41,16 @@ fn write_all<J: JournalName, D: Device, R: Wait>(
     let bytes = [7; 1024];
     let mut last = None;
     for block in first..first.saturating_add(HANDLES) {
-        match journal.try_start(rt, &mut seat, 1) {
+        match journal.start_after(rt, &mut seat, 1, &mut last) {
             Ok(handle) => {
                 let mut handle = handle;
                 let wrote = journal.write(rt, &mut handle, BlockNo(block), &bytes);
                 let left = handle.left();
-                last = Some(journal.stop(rt, handle));
-                if wrote.is_err() || left != 0 {
+                let ticket = journal.stop(rt, handle);
+                if wrote.is_err() || left != 0 || !follows(&ticket, &last) {
                     return None;
                 }
+                last = Some(ticket);
             }
             Err(_) => return None,
         }
