@@ -102,7 +102,7 @@ fn bench_files<
             let done = bench_device(rt, threads, words, device, out, err)?;
             Ok(status_of(&done))
         }
-        Err(e) => refuse_file(&mut err, words.paths.log, e),
+        Err(unfit) => unfit.refuse(words.paths, &mut err),
     }
 }
 
@@ -152,7 +152,7 @@ fn serve_files<T: Threads + Wait + Clock + Sync, C: Contents + Send, E: Write + 
             let done = serve_device(rt, threads, words, device, &mut err)?;
             Ok(status_of(&done))
         }
-        Err(e) => refuse_file(&mut err, words.paths.log, e),
+        Err(unfit) => unfit.refuse(words.paths, &mut err),
     }
 }
 

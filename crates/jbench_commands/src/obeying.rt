@@ -410,7 +410,7 @@ fn recover_files<C: Contents, W: Write + Drop, E: Write + Drop>(
     };
     match device_of(rt.alloc(), contents, files) {
         Ok(device) => recover_device(rt, words, device, out, err),
-        Err(e) => refuse_file(&mut err, words.paths.log, e),
+        Err(unfit) => unfit.refuse(words.paths, &mut err),
     }
 }
 
@@ -457,7 +457,7 @@ fn plan_files<C: Contents, W: Write + Drop, E: Write + Drop>(
     };
     match device_to_read(rt.alloc(), contents, files) {
         Ok(device) => recover_device(rt, words, device, out, err),
-        Err(e) => refuse_file(&mut err, words.paths.log, e),
+        Err(unfit) => unfit.refuse(words.paths, &mut err),
     }
 }
 
@@ -509,7 +509,7 @@ fn apply_opened<C: Contents, W: Write + Drop, E: Write + Drop>(
             say_failure(apply::device_of(&done), words.paths, &mut err)?;
             Ok(status_of_all(&done))
         }
-        Err(e) => refuse_file(&mut err, words.paths.log, e),
+        Err(unfit) => unfit.refuse(words.paths, &mut err),
     }
 }
 
@@ -573,7 +573,7 @@ fn cat_files<C: Contents, W: Write + Drop, E: Write + Drop>(
             say_failure(&device, words.paths, &mut err)?;
             Ok(status)
         }
-        Err(e) => refuse_file(&mut err, words.paths.log, e),
+        Err(unfit) => unfit.refuse(words.paths, &mut err),
     }
 }
 

@@ -10,6 +10,7 @@ use crate::pairs::{HomeFile, KeptPair, LockedPair, LogFile, LogPair, ReadPair};
 use crate::ready::{BLOCK_SIZE_PLACE, ReadyLog, number_at};
 use crate::regular::{open_there, open_to_read};
 use crate::room::{AreaFile, Room, clear, give_back, reserve};
+use crate::unfit::{Unfit, path_of};
 use file_device::{Contents, FileDevice, UnknownContents, WriteLock, length_of};
 use jbench_words::fault::{CommandStatus, refuse_file};
 use jbench_words::watch::Watch;
@@ -58,10 +59,7 @@ impl Unmade {
         ensures log { self.now.area ≡ Log → result ≡ paths.entry.log }
         ensures home { self.now.area ≡ Home → result ≡ paths.entry.home }
     {
-        match self.area {
-            Area::Log => paths.log,
-            Area::Home => paths.home,
-        }
+        path_of(self.area, paths)
     }
 
     /// A refused file, after old content may have been lost.
@@ -160,49 +158,66 @@ fn log_in<C: Contents>(alloc: Global, contents: C, file: File) -> io::Result<Fil
 ///
 /// # Errors
 ///
-/// The log cannot be read, written or synced, the system has no data on a file, or memory ran out. `InvalidInput`: a file is a device whose
-/// sectors are longer than the log's blocks. Nothing is written then.
+/// The file that is at fault: the log cannot be read, written or synced, the system has no data on a file, or memory ran out.
+/// `InvalidInput`: a file is a device whose sectors are longer than the log's blocks, or home has not one whole block. Nothing is written
+/// then.
 pub fn device_of<C: Contents>(
     alloc: Global,
     contents: C,
     files: LogPair,
-) -> io::Result<FileDevice<C>>
+) -> Result<FileDevice<C>, Unfit>
     ensures { IfOk result (IsOver files.log.file.file files.home.file.file) }
 {
-    let size = block_size_of(files.log_file())?;
-    if let Err((_, error)) = files.require_blocks(size) {
-        return Err(error);
-    }
+    let size = size_in(&files)?;
+    files.require_blocks(size)?;
+    files.require_home(size)?;
     let (log, home) = files.into_files();
-    device_over(alloc, contents, ReadyLog::made_durable(log)?, home)
+    match ReadyLog::made_durable(log) {
+        Ok(log) => device_over(alloc, contents, size, log, home),
+        Err(error) => Err(Unfit::of_log(error)),
+    }
 }
 
 /// A device over a log's two files, to read. Nothing is written.
 ///
 /// # Errors
 ///
-/// The log cannot be read, the system has no data on a file, or memory ran out.
+/// The file that is at fault: the log cannot be read, the system has no data on a file, or memory ran out. `InvalidInput`: home has not one
+/// whole block.
 pub fn device_to_read<C: Contents>(
     alloc: Global,
     contents: C,
     files: ReadPair,
-) -> io::Result<FileDevice<C>>
+) -> Result<FileDevice<C>, Unfit>
     ensures { IfOk result (IsOver files.log.file.file files.home.file.file) }
 {
+    let size = size_in(&files)?;
+    files.require_home(size)?;
     let (log, home) = files.into_files();
-    device_over(alloc, contents, ReadyLog::to_read(log), home)
+    device_over(alloc, contents, size, ReadyLog::to_read(log), home)
 }
 
-/// A device over a log's two files, with the superblock's block size.
+/// The block size of the log of these files.
+fn size_in<L: Drop>(files: &LockedPair<L>) -> Result<usize, Unfit>
+    ensures { IfOk result IsBlockSize }
+{
+    match block_size_of(files.log_file()) {
+        Ok(size) => Ok(size),
+        Err(error) => Err(Unfit::of_log(error)),
+    }
+}
+
+/// A device over a log's two files, with blocks of `size` bytes.
 fn device_over<C: Contents>(
     alloc: Global,
     contents: C,
+    size: usize,
     log: ReadyLog,
     home: HomeFile,
-) -> io::Result<FileDevice<C>>
+) -> Result<FileDevice<C>, Unfit>
+    requires { IsBlockSize size }
     ensures { IfOk result (IsOver log.file home.file) }
 {
-    let size = block_size_of(log.file())?;
     let (log, home) = (log.into_file(), home.into_file());
     Ok(FileDevice::new(alloc, contents, size, log, Some(home))?)
 }
@@ -307,10 +322,7 @@ pub fn say_failure<C: Contents>(
     let Some(failure) = device.failure() else {
         return Ok(());
     };
-    let path = match failure.area {
-        Area::Log => paths.log,
-        Area::Home => paths.home,
-    };
+    let path = path_of(failure.area, paths);
     writeln!(err, "  {path}: {failure}")
 }
 
@@ -338,7 +350,7 @@ fn tested_size(measures: &Measures, files: &LogPair) -> Result<usize, Unmade>
     }
     match files.require_blocks(size) {
         Ok(()) => Ok(size),
-        Err((area, error)) => Err(Unmade::kept(area, error)),
+        Err(unfit) => Err(Unmade::kept(unfit.area, unfit.error)),
     }
 }
 

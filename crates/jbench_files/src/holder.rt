@@ -35,15 +35,15 @@ fn is_running<R: Files<File = File>>(rt: &R, process: u64) -> bool {
 
 /// The process that took a file's lock, if the system tells it.
 fn taker_of<R: Files<File = File>>(rt: &R, file: LockPlace) -> Option<u64> {
-    match fs::open(rt, LOCKS) {
+    match Lines::new(LOCKS, fs::open(rt, LOCKS), b'\n') {
         Ok(locks) => taker_in(locks, file),
         Err(_) => None,
     }
 }
 
 /// The process that took a file's lock, by a list of locks.
-fn taker_in(locks: File, file: LockPlace) -> Option<u64> {
-    let mut lines = Lines::new(locks, b'\n');
+fn taker_in(locks: Lines<'_, File>, file: LockPlace) -> Option<u64> {
+    let mut lines = locks;
     let mut line = Line::new();
     for _ in 0..MOST_LINES {
         match lines.read(&mut line) {

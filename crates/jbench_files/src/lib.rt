@@ -1,14 +1,16 @@
 //! Opens and locks the files of a log for the commands of `jbench`, and makes devices over them.
 //!
 //! `regular` opens and identifies regular files and block devices, `locked` locks one, and `pairs` opens a log's two files. `ready` prepares
-//! a log for a device, `room` reserves disk space, and `devices` makes devices. No byte of a log's files is read or written before the lock;
-//! `waiting` waits for locks, and `holder` names the process that took one. `users` names who else uses a block device, `contents` what
-//! another program keeps there, and `nodes` reads the system's folder on it. `text` reads a script, which is not locked.
+//! a log for a device, `room` reserves disk space, and `devices` makes devices; `unfit` says why none is made. No byte of a log's files is
+//! read or written before the lock; `waiting` waits for locks, and `holder` names the process that took one. `users` names who else uses a
+//! file or a block device, `layers` what is below it, `contents` what another program keeps there, and `nodes` reads the system's folder on
+//! it. `text` reads a script, which is not locked.
 #![tactic(auto)]
 
 mod contents;
 mod devices;
 mod holder;
+mod layers;
 mod lines;
 mod locked;
 mod nodes;
@@ -17,6 +19,7 @@ mod ready;
 mod regular;
 mod room;
 mod text;
+mod unfit;
 mod users;
 mod waiting;
 
@@ -31,4 +34,5 @@ pub use pairs::{
 };
 pub use regular::{Identity, RegularFile, Sectors, names_device, open_to_read, sectors_at};
 pub use text::{ScriptText, TextFile, open_text};
+pub use unfit::Unfit;
 pub use waiting::open_pair_within;

@@ -55,9 +55,17 @@ impl fmt::Write for Line {
     }
 }
 
-/// The lines of a list, each ended by this byte.
+/// Why a list can't be read, with its place.
+fn unread(place: &str, e: io::Error) -> io::Error {
+    let mut line = Line::new();
+    let _written = fmt::Write::write_fmt(&mut line, format_args!("{place} can't be read: {e}"));
+    io::Error::new(e.kind(), line.text())
+}
+
+/// The lines of the list at this place, each ended by this byte.
 #[derive(Drop)]
-pub(crate) struct Lines<F: Read + Drop> {
+pub(crate) struct Lines<'a, F: Read + Drop> {
+    place: &'a str,
     from: F,
     end: u8,
     chunk: [u8; CHUNK],
@@ -65,14 +73,23 @@ pub(crate) struct Lines<F: Read + Drop> {
     count: usize,
 }
 
-impl<F: Read + Drop> Lines<F> {
-    pub(crate) fn new(from: F, end: u8) -> Lines<F> {
-        Lines {
-            from,
-            end,
-            chunk: [0; CHUNK],
-            at: 0,
-            count: 0,
+impl<'a, F: Read + Drop> Lines<'a, F> {
+    /// The lines of a list that was opened.
+    ///
+    /// # Errors
+    ///
+    /// It wasn't; the error names its place.
+    pub(crate) fn new(place: &'a str, opened: io::Result<F>, end: u8) -> io::Result<Lines<'a, F>> {
+        match opened {
+            Ok(from) => Ok(Lines {
+                place,
+                from,
+                end,
+                chunk: [0; CHUNK],
+                at: 0,
+                count: 0,
+            }),
+            Err(e) => Err(unread(place, e)),
         }
     }
 
@@ -80,7 +97,7 @@ impl<F: Read + Drop> Lines<F> {
     ///
     /// # Errors
     ///
-    /// The list can't be read.
+    /// The list can't be read; the error names its place.
     pub(crate) fn read(&mut self, line: &mut Line) -> io::Result<bool> {
         line.length = 0;
         for _ in 0..MOST_BYTES {
@@ -96,7 +113,10 @@ impl<F: Read + Drop> Lines<F> {
     /// The next byte, if there is one.
     fn byte(&mut self) -> io::Result<Option<u8>> {
         if self.at >= self.count {
-            self.count = self.from.read(&mut self.chunk)?;
+            self.count = match self.from.read(&mut self.chunk) {
+                Ok(count) => count,
+                Err(e) => return Err(unread(self.place, e)),
+            };
             self.at = 0;
         }
         if self.at >= self.count {

@@ -74,7 +74,7 @@ impl FileLock for ReadLock {
 /// # Errors
 ///
 /// `WouldBlock`: another program has a lock; its process is named if the system tells it. `NotFound`: another program renamed or removed
-/// the file, so the path names another one. `ResourceBusy`: it is a block device that the system names a user of; `ReadOnlyFilesystem`: one
+/// the file, so the path names another one. `ResourceBusy`: the system names a user of its bytes; `ReadOnlyFilesystem`: it is a block device
 /// that can't be written. Otherwise the system's answer.
 pub(crate) fn take<R: Files<File = File>>(
     rt: &R,
@@ -88,8 +88,8 @@ pub(crate) fn take<R: Files<File = File>>(
             require_name(rt, path, &file)?;
             if let Some(device) = file.device() {
                 require_writable(rt, device)?;
-                require_unused(rt, device)?;
             }
+            require_unused(rt, &file)?;
             Ok(LockedFile { file, lock })
         }
         Err(e) => Err(unlocked(rt, &file, e)),
@@ -117,7 +117,10 @@ pub(crate) fn require_name<R: Files<File = File>>(
     if Identity::of(&fs::metadata(rt, path)?) == file.identity {
         Ok(())
     } else {
-        Err(io::Error::from(ErrorKind::NotFound))
+        Err(io::Error::new(
+            ErrorKind::NotFound,
+            "another program replaced it: its path names another file",
+        ))
     }
 }
 

@@ -45,7 +45,7 @@ impl fmt::Display for DeviceNumber {
 }
 
 /// A path below the device's folder, which also is one.
-pub(crate) fn place_of(device: DeviceNumber, name: &str) -> Line {
+fn place_of(device: DeviceNumber, name: &str) -> Line {
     text_of(format_args!("/sys/dev/block/{device}/{name}"))
 }
 
@@ -56,11 +56,20 @@ pub(crate) fn text_of<D: fmt::Display + Drop>(text: D) -> Line {
     line
 }
 
-/// The first line of a file of the device's folder.
-fn line_at<R: Files<File = File>>(rt: &R, device: DeviceNumber, name: &str) -> io::Result<Line> {
+/// The first line of a file of the system.
+pub(crate) fn first_line<R: Files<File = File>>(rt: &R, path: &str) -> io::Result<Line> {
     let mut line = Line::new();
-    Lines::new(fs::open(rt, place_of(device, name).text())?, b'\n').read(&mut line)?;
+    Lines::new(path, fs::open(rt, path), b'\n')?.read(&mut line)?;
     Ok(line)
+}
+
+/// The first line of a file of the device's folder.
+pub(crate) fn line_at<R: Files<File = File>>(
+    rt: &R,
+    device: DeviceNumber,
+    name: &str,
+) -> io::Result<Line> {
+    first_line(rt, place_of(device, name).text())
 }
 
 /// Bytes of a logical sector: the least that the device reads or writes. A partition has those of its disk.
@@ -122,7 +131,8 @@ pub(crate) fn disk_of<R: Files<File = File>>(rt: &R, device: DeviceNumber) -> Op
 
 /// The device's own name, as the system's folders have it.
 pub(crate) fn name_of<R: Files<File = File>>(rt: &R, device: DeviceNumber) -> io::Result<Line> {
-    let mut lines = Lines::new(fs::open(rt, place_of(device, "uevent").text())?, b'\n');
+    let place = place_of(device, "uevent");
+    let mut lines = Lines::new(place.text(), fs::open(rt, place.text()), b'\n')?;
     let mut line = Line::new();
     for _ in 0..MOST_FACTS {
         if !lines.read(&mut line)? {

@@ -1,20 +1,22 @@
 //! Opens a log's two files, and locks each before it reads either.
-ghost use Rattle.std.specs.Prelude.{◌≡◌, true, IfOk, IfSome};
+ghost use Rattle.std.specs.Prelude.{◌≡◌, ◌<◌, ◌≤◌, true, IfErr, IfOk, IfSome, IsOk};
+ghost use Rattle.journal_model.specs.declared.number.Area.TheVariants.{Home, Log};
 ghost use Rattle.jbench_files.specs.Apart.{AreApart};
 ghost use Rattle.jbench_files.specs.Wanted.{IsAsWanted};
 ghost use Rattle.jbench_words.specs.declared.fault.CommandStatus.TheVariants.{Refused};
 
 use crate::contents::content_of;
+use crate::layers::require_unshared;
 use crate::locked::{FileLock, LockedFile, require_name, take};
 use crate::regular::{
     Made, Named, RegularFile, Unclaimed, given_twice, make, no_device, no_regular_file, open_there,
     require_file_place, require_kept, require_place, sync_folders,
 };
 use crate::text::{TextFile, open_text};
+use crate::unfit::Unfit;
 use file_device::{ReadLock, WriteLock, length_of};
 use jbench_words::fault::{CommandStatus, refuse_file};
 use jbench_words::words::LogPaths;
-use journal_model::Area;
 use std::fs::{File, Files};
 use std::io;
 use std::io::{ErrorKind, Write};
@@ -117,13 +119,27 @@ impl<L: Drop> LockedPair<L> {
     }
 
     /// Fails if either is a block device whose logical sectors are longer than these blocks; the error has its area.
-    pub(crate) fn require_blocks(&self, size: usize) -> Result<(), (Area, io::Error)> {
+    pub(crate) fn require_blocks(&self, size: usize) -> Result<(), Unfit>
+        ensures both { IsOk result → (self.now.log.file.sector ≤ size) × (self.now.home.file.sector ≤ size) }
+        ensures log { IfErr result (λ unfit. unfit.area ≡ Log → size < self.now.log.file.sector) }
+        ensures home { IfErr result (λ unfit. unfit.area ≡ Home → size < self.now.home.file.sector) }
+    {
         match self.log.file().require_blocks(size) {
             Ok(()) => match self.home.file().require_blocks(size) {
                 Ok(()) => Ok(()),
-                Err(error) => Err((Area::Home, error)),
+                Err(error) => Err(Unfit::of_home(error)),
             },
-            Err(error) => Err((Area::Log, error)),
+            Err(error) => Err(Unfit::of_log(error)),
+        }
+    }
+
+    /// Fails if home has fewer bytes than a block.
+    pub(crate) fn require_home(&self, size: usize) -> Result<(), Unfit>
+        ensures { IfErr result (λ unfit. unfit.area ≡ Home) }
+    {
+        match self.home.file().require_bytes(size as u64) {
+            Ok(()) => Ok(()),
+            Err(error) => Err(Unfit::of_home(error)),
         }
     }
 
@@ -330,8 +346,9 @@ pub fn open_script<'a, R: Files<File = File>>(
 ///
 /// # Errors
 ///
-/// The first that is neither a regular file nor a block device, cannot be read (and written, for a write lock), is the same as the other, or has a lock of
-/// another program that excludes this one. `NotFound`: the log's path names another file by the time home is opened.
+/// The first that is neither a regular file nor a block device, cannot be read (and written, for a write lock), is the same as the other or
+/// shares bytes with it, as far as the system tells, or has a lock of another program that excludes this one; of a write lock also those of
+/// `take`. `NotFound`: the log's path names another file by the time home is opened.
 pub(crate) fn open_pair<'a, L: FileLock, R: Files<File = File>>(
     rt: &R,
     paths: LogPaths<'a>,
@@ -360,9 +377,25 @@ fn open_locked<L: FileLock, R: Files<File = File>>(
     ensures { IfOk result (λ locked. IfSome other.entry (λ other. AreApart other.now locked.file)) }
 {
     let file = L::open(rt, path)?;
+    if let Some(other) = other {
+        require_other_bytes(rt, other, &file)?;
+    }
     match other {
         Some(other) => L::take(rt, path, file.other_than(other)?),
         None => L::take(rt, path, file),
+    }
+}
+
+/// Fails if a home area's file is another one than the log's, and shares bytes with it.
+fn require_other_bytes<R: Files<File = File>>(
+    rt: &R,
+    log: &RegularFile,
+    home: &RegularFile,
+) -> io::Result<()> {
+    if log.is(home) {
+        Ok(())
+    } else {
+        require_unshared(rt, log, home)
     }
 }
 
@@ -402,7 +435,8 @@ struct WantedPair<'a> {
 /// # Errors
 ///
 /// The first of the two that is refused: it is neither a regular file nor a block device that may be opened, cannot be read and written or
-/// made, is the other, is locked by another program, is a block device that something else uses, or its folder cannot be synced. Nothing is
+/// made, is the other or shares bytes with it, is locked by another program, has bytes that the system names a user of, or its folder cannot
+/// be synced. Nothing is
 /// made if either path already shows that it will be refused. A made file stays: another program may use it by then, with a log in it. With
 /// `has_to_be_new` `AlreadyExists`: the file exists, or has bytes before it is locked.
 pub fn open_or_make_pair<'a, R: Files<File = File>>(
@@ -554,7 +588,7 @@ fn claim<'a, R: Files<File = File>>(
         Err(refused) => return Err(refused_beside(rt, path, log, refused)),
     };
     let opened = apart_from(script, opened)?;
-    let claimed = locked(rt, path, apart_from(log, opened)?)?;
+    let claimed = locked(rt, path, unshared(rt, log, apart_from(log, opened)?)?)?;
     match require_bytes_of(claimed.file.file(), wanted) {
         Ok(()) => Ok(claimed),
         Err(error) => Err(Unclaimed {
@@ -679,6 +713,26 @@ fn apart_from<'a>(
             made: opened.stays(),
         }),
         _ => Ok(opened),
+    }
+}
+
+/// This file, if it shares no bytes with the log's.
+fn unshared<'a, R: Files<File = File>>(
+    rt: &R,
+    log: Option<&RegularFile>,
+    opened: OpenedFile<'a, RegularFile>,
+) -> Result<OpenedFile<'a, RegularFile>, Unclaimed<'a>>
+    ensures { IfOk result (λ same. same ≡ opened.entry) }
+{
+    let Some(log) = log else {
+        return Ok(opened);
+    };
+    match require_unshared(rt, log, &opened.file) {
+        Ok(()) => Ok(opened),
+        Err(error) => Err(Unclaimed {
+            error,
+            made: opened.stays(),
+        }),
     }
 }
 

@@ -1,6 +1,6 @@
 //! Opens regular files and block devices, keeps their content, and tells them apart.
 ghost use Rattle.std.specs.Prelude.{◌≡◌, ◌≤◌, ◌↔◌, false, true, IfOk, IsOk};
-ghost use Rattle.std.specs.Fs.{asks_create_new, asks_truncate, metadata_len};
+ghost use Rattle.std.specs.Fs.{asks_create_new, asks_truncate};
 ghost use Rattle.jbench_files.specs.Apart.{AreApart};
 
 use crate::nodes::{DeviceNumber, physical_sector_of, sector_of, text_of};
@@ -24,17 +24,33 @@ pub struct Identity {
 impl Identity {
     pub(crate) fn of(metadata: &Metadata) -> Identity {
         if metadata.file_type().is_block_device() {
-            Identity {
-                is_device: true,
-                device: DeviceNumber::of(metadata.rdev()),
-                inode: 0,
-            }
+            Identity::of_device(DeviceNumber::of(metadata.rdev()))
         } else {
             Identity {
                 is_device: false,
                 device: DeviceNumber::of(metadata.dev()),
                 inode: metadata.ino(),
             }
+        }
+    }
+
+    /// That of a block device.
+    pub(crate) fn of_device(device: DeviceNumber) -> Identity
+        ensures { (result.is_device ≡ true) × (result.device ≡ device) }
+    {
+        Identity {
+            is_device: true,
+            device,
+            inode: 0,
+        }
+    }
+
+    /// The device's number, if it is a block device.
+    pub(crate) fn device(self) -> Option<DeviceNumber> {
+        if self.is_device {
+            Some(self.device)
+        } else {
+            None
         }
     }
 
@@ -130,11 +146,7 @@ impl RegularFile {
 
     /// Its number, if it is a block device.
     pub(crate) fn device(&self) -> Option<DeviceNumber> {
-        if self.is_device() {
-            Some(self.identity.device)
-        } else {
-            None
-        }
+        self.identity.device()
     }
 
     /// Fails if it is a block device with longer logical sectors than these blocks: a crash could tear a block.
@@ -142,7 +154,9 @@ impl RegularFile {
     /// # Errors
     ///
     /// `InvalidInput`: it is.
-    pub(crate) fn require_blocks(&self, size: usize) -> io::Result<()> {
+    pub(crate) fn require_blocks(&self, size: usize) -> io::Result<()>
+        ensures { IsOk result ↔ self.now.sector ≤ size }
+    {
         require_sector(self.sector, size as u64)
     }
 
@@ -180,13 +194,9 @@ impl RegularFile {
     ///
     /// # Errors
     ///
-    /// `InvalidInput`: it has. Otherwise the system's answer.
+    /// `InvalidInput`: it has, with both numbers. Otherwise the system's answer.
     pub(crate) fn require_bytes(&self, bytes: u64) -> io::Result<()> {
-        if self.is_device() {
-            require_room(length_of(&self.file)?, bytes)
-        } else {
-            require_length(&self.file.metadata()?, bytes)
-        }
+        require_room(length_of(&self.file)?, bytes)
     }
 
     /// Fails if the file has bytes: another program may have used it before it was locked.
@@ -209,21 +219,7 @@ impl RegularFile {
     }
 }
 
-/// Fails if the file of these data has fewer bytes.
-fn require_length(metadata: &Metadata, bytes: u64) -> io::Result<()>
-    ensures { IsOk result ↔ bytes ≤ metadata_len metadata.now }
-{
-    if metadata.len() < bytes {
-        Err(io::Error::new(
-            ErrorKind::InvalidInput,
-            "it has fewer blocks than are wanted",
-        ))
-    } else {
-        Ok(())
-    }
-}
-
-/// Fails if a device has fewer bytes than are wanted.
+/// Fails if a file or a device has fewer bytes than are wanted.
 ///
 /// # Errors
 ///
@@ -504,7 +500,7 @@ pub(crate) fn require_kept<R: Files<File = File>>(
     let metadata = fs::metadata(rt, path)?;
     require_storage(&metadata)?;
     if metadata.is_file() {
-        require_length(&metadata, bytes)
+        require_room(metadata.len(), bytes)
     } else {
         Ok(())
     }

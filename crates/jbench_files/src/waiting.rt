@@ -17,8 +17,9 @@ const PAUSES: u64 = 10;
 ///
 /// # Errors
 ///
-/// Those of the last try: the first file that is no regular one, cannot be read (and written, for a write lock), is the same as the other,
-/// or has such a lock. `NotFound`: the log's path names another file by the time home is opened.
+/// Those of the last try: the first file that is neither a regular one nor a block device, cannot be read (and written, for a write lock),
+/// is the same as the other or shares bytes with it, as far as the system tells, has such a lock, or, for a write lock, can't be written or
+/// has bytes that the system names a user of. `NotFound`: the log's path names another file by the time home is opened.
 pub fn open_pair_within<'a, L: FileLock, R: Files<File = File> + Clock>(
     rt: &R,
     paths: LogPaths<'a>,
