@@ -9,18 +9,24 @@ zeros. Then the client leaves without saying so, and the server has to end withi
 where that write should be: nothing that came behind the zeros may be there. A line tells how long the read and the end took. Then the same
 with a trim of what was written.
 
+Last, whether short writes that wait keep the memory of long ones: while zeros are written, a client sends short writes, one more in each of
+30 rounds, and a long one after them. The server may then have at most 100 MiB more than after the first rounds. A line tells how much.
+
 The files lie in a folder of FOLDER (default: that for temporary files), which is deleted. The program is `./jbench`, or the one at PATH.
 """
 import argparse
+import re
 import struct
 import tempfile
 import time
+from pathlib import Path
 
 from served import Volume, add_program
 
 BLOCK, LENGTH = 4096, 64
 READ, WRITE, DISCONNECT, FLUSH, TRIM, ZEROES = 0, 1, 2, 3, 4, 6
 PART = 1 << 20
+MOST, SHORT = 32 * PART, 65536  # bytes of the longest request, and of one that is handed to another task
 MARK = b"behind" + bytes(BLOCK - 6)
 
 
@@ -81,6 +87,32 @@ def try_one(volume, command, name):
     print(f"{name}: the read waited {waited * 1000:.1f} ms, the end {ended * 1000:.0f} ms")
 
 
+def resident(process):
+    """The memory of a process in MiB."""
+    status = Path(f"/proc/{process.pid}/status").read_text()
+    return int(re.search(r"^VmRSS:\s+(\d+)", status, re.MULTILINE)[1]) >> 10
+
+
+def try_memory(volume):
+    server, connected = volume.serve()
+    client = Client(connected)
+    found = []
+    for short in range(30):
+        client.send(ZEROES, 1, 0, MOST)
+        for k in range(short):
+            client.send(WRITE, 2, MOST + k * SHORT, SHORT, bytes(SHORT))
+        left = MOST - short * SHORT
+        client.send(WRITE, 3, 0, left, bytes(left))
+        for _ in range(short + 2):
+            client.hear()
+        found.append(resident(server))
+    client.leave()
+    assert server.wait() == 0
+    begun, most = max(found[:3]), max(found)
+    assert most <= begun + 100, f"memory grew from {begun} to {most} MiB"
+    print(f"short writes beside long ones: {begun} MiB of memory after 3 rounds, at most {most} in 30")
+
+
 def main():
     parser = argparse.ArgumentParser(description=__doc__, formatter_class=argparse.RawDescriptionHelpFormatter)
     parser.add_argument("--mib", type=int, default=1024)
@@ -91,6 +123,8 @@ def main():
         volume = Volume(given.program, folder, BLOCK, LENGTH, given.mib << 20 >> 12, sparse=True)
         try_one(volume, ZEROES, "zeros")
         try_one(volume, TRIM, "a trim")
+    with tempfile.TemporaryDirectory(dir=given.at) as folder:
+        try_memory(Volume(given.program, folder, BLOCK, 16384, 16384, sparse=True))
 
 
 if __name__ == "__main__":

@@ -4,6 +4,7 @@ ghost use Rattle.std.specs.Io.KnownBytes.{Consumes};
 ghost use Rattle.nbd_server.specs.Input.{TakesPayload, TakesRequest};
 
 use crate::handshake::{begin, skip};
+use crate::replies::LONG_BYTES;
 use nbd_protocol::numbers::WRITE;
 use nbd_protocol::{REQUEST_BYTES, Request};
 use std::alloc::Global;
@@ -74,6 +75,9 @@ impl Gone {
     }
 }
 
+/// The most bytes of memory that a request keeps if it needs fewer: a short one may grow to that.
+const KEPT_BYTES: usize = 2 * LONG_BYTES;
+
 /// The bytes after a write, for the memory to be used again. Only the next bytes of an input of type I fill it.
 #[derive(Drop)]
 pub struct Payload<I> {
@@ -106,6 +110,14 @@ impl<I> Payload<I> {
     {
         self.bytes.as_slice()
     }
+
+    /// Gives memory back that is for more bytes than these, and for more than a short request may keep. Otherwise short changes that wait
+    /// would hold the memory of long ones before them.
+    fn fit(&mut self, count: usize) {
+        if self.bytes.capacity() > count.max(KEPT_BYTES) {
+            self.bytes = Vec::new(*self.bytes.allocator());
+        }
+    }
 }
 
 impl<I: Read> Payload<I> {
@@ -120,8 +132,10 @@ impl<I: Read> Payload<I> {
         ensures none { IfOk result (λ all. all ≡ false → (request.now.command ≡ 1) × (I.remaining input.new ≡ I.remaining input.old)) }
     {
         if request.command == WRITE {
+            self.fit(request.length as usize);
             return fill(input, &mut self.bytes, request.length as usize);
         }
+        self.fit(0);
         self.bytes.clear();
         Ok(true)
     }
