@@ -8,4 +8,6 @@ mod journal;
 #[cfg(test)]
 mod own;
 #[cfg(test)]
+mod store;
+#[cfg(test)]
 mod threads;

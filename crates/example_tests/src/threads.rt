@@ -1,17 +1,48 @@
-//! The example of threads over a device in memory.
+//! The store of four threads over a device in memory.
 
 use crate::expected::expect;
+use anyhow::Result;
+use crossbeam_channel::{Receiver, unbounded};
 use keelsoursop::MemDevice;
+use std::alloc::Global;
+use std::sync::Wait;
 use std::test::Fail;
+use std::thread::Threads;
+use threads_example::{Request, serve};
 
-/// Each of two threads learns that its two changes are safe; they took two to four transactions.
+/// Serves requests over a new store: twenty keys at once, more than a transaction of its log can change, then other values of the first
+/// three, then what key 19 has. The sender is dropped before, so the servers end. Returns how many requests were done, and the first byte of
+/// key 19, or 0.
+fn serve_all<W: Threads + Wait + Sync>(rt: &W, alloc: Global) -> Result<(usize, u8)> {
+    let mut device = MemDevice::new(alloc, 1024, 33, 64);
+    keelsoursop::format(&mut device, 33, &[0xaa; 16], false)?;
+    let (requests, to_serve) = unbounded(alloc)?;
+    let (reply, replies) = unbounded(alloc)?;
+    let value = vec![in alloc; 7u8; 1024]?;
+    requests.send(rt, Request::PutAll { keys: 20, value })?;
+    for key in 0..3usize {
+        let value = vec![in alloc; 8u8; 1024]?;
+        requests.send(rt, Request::Put { key, value })?;
+    }
+    requests.send(rt, Request::Get { key: 19, reply })?;
+    drop(requests);
+    let done = serve(rt, alloc, device, to_serve)?;
+    Ok((done, first_byte(rt, &replies)))
+}
+
+fn first_byte<W: Wait>(rt: &W, replies: &Receiver<Option<Vec<u8>>>) -> u8 {
+    match replies.recv(rt) {
+        Ok(Some(bytes)) => bytes.first().copied().unwrap_or(0),
+        _ => 0,
+    }
+}
+
+/// All requests are done. The read may come before the first change: then there is nothing.
 #[test]
-fn two_threads_change_blocks(rt: HostRuntime) -> Result<(), Fail> {
-    let device = MemDevice::new(rt.alloc(), 1024, 33, 64);
-    let Ok(done) = threads_example::work(&rt, rt.alloc(), device) else {
+fn four_threads_serve_requests(rt: HostRuntime) -> Result<(), Fail> {
+    let Ok((done, found)) = serve_all(&rt, rt.alloc()) else {
         return Err("a call is refused".into());
     };
-    let is_home = 2 <= done.home && done.home <= 4;
-    expect(&rt, &(done.safe, is_home), &(4, true));
+    expect(&rt, &(done, found == 7 || found == 0), &(5, true));
     Ok(())
 }
