@@ -6,8 +6,8 @@ no earlier than any that an answered flush or FUA covers.
     serve_devices.py [--program PATH] [--rounds N] [--seed N] [--seconds S] [--folder FOLDER]
 
 There are N rounds (default: 200), five over each volume, of S seconds of the requests of serve_killed.py at most (default: 0.6). Every
-other volume is only killed. Behind the devices of the others stand disks of this script, which nbdfuse shows as files: they keep each
-write in a cache until a flush. Power is lost at a drawn write to them, by both at once. Each later request fails, so a server lives on
+other volume is only killed. Behind the devices of the others stand disks of disks.py, which nbdfuse shows as files: they keep each write
+in a cache until a flush. Power is lost at a drawn write to them, by both at once. Each later request fails, so a server lives on
 for a moment over failing devices. Then each block of a disk is drawn by itself: as it was flushed, or as one of the writes since. Some
 servers are killed before, and power is lost while the next one opens the log. Other openings are cut too; and what a server has read
 after its opening, or left at its end, has to outlast one more loss. prefix.py judges, and is itself tried first. It ends with status 1 if
@@ -24,9 +24,7 @@ import os
 import random
 import re
 import shutil
-import socket
 import stat
-import struct
 import subprocess
 import sys
 import tempfile
@@ -36,6 +34,7 @@ from pathlib import Path
 
 import nbd
 
+from disks import Disk, Supply
 from prefix import Changes, try_judge
 from serve_killed import Client
 from served import Volume, add_program, capacity_of, read_all
@@ -67,106 +66,6 @@ def unmount(shown):
             if subprocess.run(["umount", str(folder)], capture_output=True).returncode:
                 time.sleep(0.02)
         program.wait()
-
-
-class Supply:
-    """The power of some disks: it is cut at once, or at one of their next writes."""
-
-    def __init__(self):
-        self.lock, self.is_cut, self.writes_left = threading.Lock(), threading.Event(), None
-
-    def cut_after(self, writes):
-        with self.lock:
-            self.writes_left = writes
-
-    def cut(self):
-        with self.lock:
-            self.is_cut.set()
-
-    def restore(self):
-        self.writes_left = None
-        self.is_cut.clear()
-
-
-class Disk:
-    """A disk with a cache, served over NBD at a socket: what is flushed, and each block's values since then."""
-
-    FLAGS = 1 | 4  # there are flags; it takes flushes
-
-    def __init__(self, path, held, block, supply):
-        self.flushed, self.newest, self.since = bytearray(held), bytearray(held), {}
-        self.block, self.supply = block, supply
-        self.socket = socket.socket(socket.AF_UNIX)
-        self.socket.bind(str(path))
-        self.socket.listen(4)
-        threading.Thread(target=self.accept, daemon=True).start()
-
-    def accept(self):
-        with contextlib.suppress(OSError):
-            while True:
-                client, _ = self.socket.accept()
-                threading.Thread(target=self.serve, args=(client,), daemon=True).start()
-
-    def serve(self, client):
-        def take(count):
-            data = client.recv(count, socket.MSG_WAITALL) if count else b""
-            if len(data) != count:
-                raise EOFError
-            return data
-
-        with client, contextlib.suppress(OSError, EOFError):
-            client.sendall(struct.pack(">8s8sH", b"NBDMAGIC", b"IHAVEOPT", 3))
-            take(4)
-            option = None
-            while option != 7:
-                _, option, length = struct.unpack(">8sII", take(16))
-                take(length)
-                replies = [(1, b"")] if option in (2, 6, 7) else [(0x80000001, b"")]
-                if option in (6, 7):
-                    replies.insert(0, (3, struct.pack(">HQH", 0, len(self.newest), self.FLAGS)))
-                for kind, data in replies:
-                    client.sendall(struct.pack(">QIII", 0x3E889045565A9, option, kind, len(data)) + data)
-            while True:
-                _, _, command, cookie, at, length = struct.unpack(">IHHQQI", take(28))
-                data = take(length) if command == 1 else b""
-                if command == 2:
-                    return
-                error, data = self.answer(command, at, length, data)
-                client.sendall(struct.pack(">IIQ", 0x67446698, error, cookie) + data)
-
-    def answer(self, command, at, length, data):
-        """A request that is done, or fails without power. The write at which the power goes is in the cache, and fails."""
-        with self.supply.lock:
-            if self.supply.is_cut.is_set():
-                return 5, b""
-            if command == 0:
-                return 0, bytes(self.newest[at : at + length])
-            if command == 1:
-                self.newest[at : at + length] = data
-                for k in range(at // self.block, -(-(at + length) // self.block)):
-                    self.since.setdefault(k, []).append(bytes(self.newest[k * self.block : (k + 1) * self.block]))
-                if self.supply.writes_left is not None:
-                    self.supply.writes_left -= 1
-                    if self.supply.writes_left <= 0:
-                        self.supply.is_cut.set()
-                        return 5, b""
-                return 0, b""
-            if command == 3:
-                self.flushed[:] = self.newest
-                self.since.clear()
-                return 0, b""
-            return 22, b""
-
-    def lose(self, draw):
-        """What a loss of power may leave: how many blocks there was a choice of."""
-        choices, newest = len(self.since), draw.choice((0, 0.1, 0.5, 0.9, 1))
-        for k, values in self.since.items():
-            if draw.random() < newest:
-                value = values[-1] if draw.random() < 0.7 else draw.choice(values)
-                self.flushed[k * self.block : k * self.block + len(value)] = value
-        self.newest[:] = self.flushed
-        self.since.clear()
-        return choices
 
 
 class Devices(Volume):

@@ -2,7 +2,7 @@
 """A Linux guest with an ext4 file system on a volume that `jbench serve` serves, killed together with the server at random: each time the
 file system has to be sound but for its own journal, with each file that was synced, and no page that was written in place torn.
 
-    serve_guest.py --kernel FOLDER [--no-barriers] [--program PATH] [--rounds N] [--seed N] [--seconds S]
+    serve_guest.py --kernel FOLDER [--power] [--database] [--no-barriers] [--nbdkit] [--program PATH] [--rounds N] [--seed N] [--seconds S]
 
 QEMU emulates the guest in software (`-accel tcg`), and reaches the server through a socket of the file system, each connection of which is
 the standard input and output of a server. The guest is busybox alone: it mounts the volume, and then, S seconds at most (default: 8),
@@ -13,14 +13,23 @@ each, copies of log and home area are recovered by `recover`; `e2fsck -p` may re
 more; then `e2fsck -fn` has to find nothing, each synced file has to be there with its bytes, and each page has to be the one of one write,
 which is no earlier than the last one that was synced. It ends with status 1 at the first fault.
 
-With --no-barriers the file system is mounted with `barrier=0`, so that no flush may reach the device: the relay looks. The guest runs
-transactions of SQLite, with `synchronous = FULL` and a journal mode that is drawn. What they left has to pass `PRAGMA integrity_check` and
-to be what the first of them made, at least those that the guest before had left: how many of the last ones are lost is counted.
+With --power log and home area are two disks of the guest (virtio), the server runs in it, and the file system lies on /dev/nbd0, the
+kernel's own client of the server. The disks are those of disks.py. They lose power with the guest, at a drawn write; in one round of four
+soon after the guest's start, so while its server opens the log, or while the file system is mounted.
 
-A kill leaves what the system was given: it is no loss of power. It needs Debian's qemu-system-x86, busybox-static and e2fsprogs, with
---no-barriers sqlite3 too, and in FOLDER an unpacked kernel:
+With --database the guest runs transactions of SQLite instead, with `synchronous = FULL` and a journal mode that is drawn. What they left
+has to pass `PRAGMA integrity_check` and to be what the first of them made, up to the last one that the guest told (in mode `delete` up to
+the one before). With --no-barriers the file system of such a guest is mounted with `barrier=0`, so that no flush may reach the device: the
+relay looks. Then only those have to be there that the guest before had left: how many of the last ones are lost is counted. Both tell how
+many transactions were made in how many seconds, by mode.
 
-    apt-get download linux-image-6.1.0-56-cloud-amd64 && dpkg -x linux-image-*.deb FOLDER
+With --nbdkit nbdkit's file plugin is such a guest's server in place of `jbench`, over the disk of the home area alone, which the guest
+syncs every 5 seconds, as often as `jbench` commits. Each round has a new file system, and all rounds with faults are told.
+
+A kill leaves what the system was given: it is no loss of power. It needs Debian's qemu-system-x86, busybox-static and e2fsprogs, for
+databases sqlite3, for losses of power nbd-client, and nbdkit where it serves; and in FOLDER an unpacked kernel:
+
+    apt-get download linux-image-6.1.0-57-cloud-amd64 && dpkg -x linux-image-*.deb FOLDER
 
 (the package that linux-image-cloud-amd64 depends on; the kernel wants ext4 built in, as this one has it). The program is `./jbench`, which
 is built first, or the one at PATH; files are made in a folder for temporary files.
@@ -43,23 +52,41 @@ import threading
 import time
 from pathlib import Path
 
+from disks import Disk, Supply
 from served import Listener, Volume, add_program
 
 MODULES = ["virtio_ring", "virtio", "virtio_pci_legacy_dev", "virtio_pci_modern_dev", "virtio_pci", "virtio_blk"]
 BLOCK, LENGTH, HOME = 4096, 2048, 16384
+PLUGIN = "/usr/lib/x86_64-linux-gnu/nbdkit/plugins/nbdkit-file-plugin.so"
 KEPT, PAGES, PAGE = 100, 64, 16384  # files that are kept, pages, bytes of a page
 INIT = """#!/bin/busybox sh
 export PATH=/bin
-/bin/busybox mkdir -p /proc /dev /mnt
+/bin/busybox mkdir -p /proc /sys /dev /mnt
 /bin/busybox --install -s /bin
 stop() { while true; do sleep 1; done; } # the device failed, since its server is gone
 mount -t proc proc /proc
+mount -t sysfs sys /sys
 mount -t devtmpfs dev /dev
+echo guest: up
+until [ "$begin$end" = nowgo ]; do read -r begin n mode end </dev/ttyS0; done
+echo guest: goes
 for module in %(modules)s; do insmod /$module.ko || echo guest: no $module; done
-until [ -b /dev/vda ]; do sleep 0.1; done
-mount -t ext4 -o barrier=%(barrier)d /dev/vda /mnt || { echo guest: no file system; poweroff -f; }
-n=$(sed 's/.*first=\\([0-9]*\\).*/\\1/' /proc/cmdline)
-mode=$(sed 's/.*mode=\\([a-z]*\\).*/\\1/' /proc/cmdline)
+%(device)s
+mount -t ext4 -o barrier=%(barrier)d $device /mnt || { echo guest: no file system; poweroff -f; }
+"""
+OUTSIDE = "device=/dev/vda; until [ -b $device ]; do sleep 0.1; done"
+INSIDE = """device=/dev/nbd0
+until [ -b /dev/vda -a -b /dev/vdb ]; do sleep 0.1; done
+ip link set lo up
+/serve &
+until nbd-client -N '' 127.0.0.1 10809 $device >/dev/null 2>&1; do sleep 0.3; done"""
+JBENCH = """#!/bin/sh
+[ -z "$1" ] || exec jbench serve /dev/vda /dev/vdb
+nc -l -p 10809 -e /serve connected
+"""
+NBDKIT = """#!/bin/sh
+while sleep 5; do sync /dev/vdb; done &
+nbdkit -f -p 10809 /lib/nbdkit-file-plugin.so cache=none /dev/vdb
 """
 FILES = """
 if [ ! -e /mnt/laid ]; then
@@ -87,6 +114,7 @@ echo guest: mounted
 { begin; yes "$(cat /next.sql)"; } | sqlite3 -bail /mnt/base 2>/dev/null
 stop
 """
+MODES = ("delete", "truncate", "persist", "wal")
 CELLS, TURNS, ADDED = 300, 7, 50  # rows that are changed in turn, how many turns, rows that are added and kept
 BEGIN_SQL = f"""
 PRAGMA synchronous = FULL;
@@ -117,6 +145,26 @@ class Relay(Listener):
         self.writes = []  # of the last client: the first byte, and how many
         self.flushes = 0  # also writes with FUA
         self.is_down = False  # whether QEMU, which would connect again by itself, finds no server
+        self.uris = [self.uri]
+
+    def power_on(self):
+        self.is_down = False
+
+    def begin(self):
+        """The file system is mounted, and its pages are laid out."""
+        self.writes.clear()
+        self.flushes = 0
+
+    def end(self, guest, draw, cases):
+        """Server and guest are killed."""
+        order, self.is_down = draw.choice(["server", "guest"]), True
+        if order == "guest":
+            guest.process.kill()
+        self.server.kill()
+        time.sleep(draw.uniform(0, 0.2))
+        guest.kill()
+        self.server.wait()
+        cases[f"{order} killed first"] += 1
 
     def run(self):
         while True:
@@ -170,6 +218,50 @@ def copy(source, to):
         to.shutdown(socket.SHUT_WR)
 
 
+class Disks:
+    """The disks of a guest that has the server in it: log and home area. They lose power with it."""
+
+    def __init__(self, volume):
+        self.supply, self.files, self.writes, self.flushes = Supply(), (volume.log, volume.home), [], 0
+        self.disks = [Disk(f"{file}.socket", file.read_bytes(), BLOCK, self.supply) for file in self.files]
+        self.uris = [f"nbd+unix:///?socket={file}.socket" for file in self.files]
+
+    def __enter__(self):
+        return self
+
+    def __exit__(self, *_):
+        for disk in self.disks:
+            disk.socket.close()
+
+    def set(self):
+        """The disks get what is in the files."""
+        for file, disk in zip(self.files, self.disks):
+            disk.set(file.read_bytes())
+
+    def power_on(self):
+        self.supply.restore()
+
+    def begin(self):
+        pass
+
+    def end(self, guest, draw, cases):
+        """Power is lost at one of the next writes. The guest lives on for a moment, over disks that fail."""
+        self.supply.cut_after(draw.randrange(1, 100))
+        self.supply.is_cut.wait(6)  # a server commits after 5 seconds at the latest
+        self.lose(guest, draw, cases)
+
+    def lose(self, guest, draw, cases):
+        self.supply.cut()
+        time.sleep(draw.choice((0, 0, 0.2)))
+        guest.kill()
+        choices = sum(disk.lose(draw) for disk in self.disks)
+        for file, disk in zip(self.files, self.disks):
+            file.write_bytes(disk.flushed)
+        cases["losses of power"] += 1
+        cases["losses with a choice"] += choices > 0
+        cases["blocks there was a choice of"] += choices
+
+
 class Fault(Exception):
     """Something is not as it has to be."""
 
@@ -185,42 +277,77 @@ def archive(files):
     return gzip.compress(bytes(made), 1)
 
 
-def database_files():
-    """SQLite's program with its libraries, and what it runs."""
-    program = Path(shutil.which("sqlite3"))
-    needed = [Path(word) for word in run("ldd", program).split() if word.startswith("/")]
-    folders = {str(folder)[1:] for file in needed for folder in file.parents if folder != Path("/")}
-    files = [(folder, 0o040755, b"") for folder in sorted(folders)] + [(str(file)[1:], 0o100755, file.read_bytes()) for file in needed]
-    texts = [("begin.sql", BEGIN_SQL), ("next.sql", NEXT_SQL)]
-    return [*files, ("bin/sqlite3", 0o100755, program.read_bytes()), *((name, 0o100644, text.encode()) for name, text in texts)]
+def program_files(programs):
+    """These programs, by their names in the guest, with their libraries."""
+    needed = {word for program in programs.values() for word in run("ldd", program, wanted=(0, 1)).split() if word.startswith("/")}
+    packed = {path[1:]: path for path in needed} | programs
+    folders = sorted({str(folder) for path in packed for folder in Path(path).parents if str(folder) != "."})
+    return [(folder, 0o040755, b"") for folder in folders] + [(path, 0o100755, Path(file).read_bytes()) for path, file in packed.items()]
 
 
-def guest_files(kernel, has_barriers):
+def guest_files(a):
     """The image of the kernel, and the archive."""
-    images = sorted((kernel / "boot").glob("vmlinuz-*"))
+    images = sorted((a.kernel / "boot").glob("vmlinuz-*"))
     if not images:
-        raise SystemExit(f"serve_guest.py: {kernel} has no boot/vmlinuz-*")
-    words = {"modules": " ".join(MODULES), "all": PAGES * PAGE, "kept": KEPT, "page": PAGE, "pages": PAGES, "barrier": has_barriers}
-    init = (INIT + (FILES if has_barriers else DATABASE)) % words
-    files = [("bin", 0o040755, b""), ("bin/busybox", 0o100755, Path(shutil.which("busybox")).read_bytes()), ("init", 0o100755, init.encode())]
-    modules = kernel / "lib/modules" / images[-1].name.removeprefix("vmlinuz-")
-    for name in MODULES:
-        files.append((f"{name}.ko", 0o100644, next(modules.rglob(f"{name}.ko")).read_bytes()))
-    return images[-1], archive(files if has_barriers else files + database_files())
+        raise SystemExit(f"serve_guest.py: {a.kernel} has no boot/vmlinuz-*")
+    names = MODULES + ["nbd"] * a.power
+    words = {"modules": " ".join(names), "all": PAGES * PAGE, "kept": KEPT, "page": PAGE, "pages": PAGES}
+    words |= {"device": INSIDE if a.power else OUTSIDE, "barrier": not a.no_barriers}
+    texts, programs = {"init": (INIT + (DATABASE if a.database else FILES)) % words}, {"bin/busybox": shutil.which("busybox")}
+    if a.database:
+        texts |= {"begin.sql": BEGIN_SQL, "next.sql": NEXT_SQL}
+        programs |= {"bin/sqlite3": shutil.which("sqlite3")}
+    if a.power:
+        texts |= {"serve": NBDKIT if a.nbdkit else JBENCH}
+        programs |= {"bin/nbd-client": shutil.which("nbd-client")}
+        programs |= {"bin/nbdkit": shutil.which("nbdkit"), "lib/nbdkit-file-plugin.so": PLUGIN} if a.nbdkit else {"bin/jbench": a.program}
+    files = program_files(programs) + [(name, 0o100755, text.encode()) for name, text in texts.items()]
+    modules = a.kernel / "lib/modules" / images[-1].name.removeprefix("vmlinuz-")
+    return images[-1], archive(files + [(f"{name}.ko", 0o100644, next(modules.rglob(f"{name}.ko")).read_bytes()) for name in names])
 
 
 class Guest:
-    """A running guest, and what it has said."""
+    """A running guest, and what it has said. It starts, or goes on as one that was kept."""
 
-    def __init__(self, image, memory, uri, first, mode):
-        words = ["qemu-system-x86_64", "-accel", "tcg", "-m", "256", "-display", "none", "-monitor", "none", "-serial", "stdio", "-no-reboot"]
-        told = f"console=ttyS0 quiet panic=-1 no_timer_check first={first} mode={mode}"
-        words += ["-net", "none", "-kernel", str(image), "-initrd", str(memory), "-append", told]
-        words += ["-drive", f"file={uri},format=raw,if=virtio,cache=none"]
-        self.process = subprocess.Popen(words, stdin=subprocess.DEVNULL, stdout=subprocess.PIPE, stderr=subprocess.STDOUT)
-        self.said, self.mounted = [], threading.Event()
+    def __init__(self, image, memory, uris, kept):
+        words = ["qemu-system-x86_64", "-accel", "tcg", "-m", "256", "-display", "none", "-monitor", "none", "-serial", "stdio"]
+        words += ["-no-reboot", "-net", "none", "-kernel", str(image), "-initrd", str(memory)]
+        words += ["-append", "console=ttyS0 quiet panic=-1 no_timer_check"]
+        for uri in uris:
+            words += ["-drive", f"file={uri},format=raw,if=virtio,cache=none"]
+        words += ["-incoming", f"exec:cat {kept}"] if kept.exists() else ["-qmp", f"unix:{kept}.qmp,server=on,wait=off"]
+        self.process = subprocess.Popen(words, stdin=subprocess.PIPE, stdout=subprocess.PIPE, stderr=subprocess.STDOUT)
+        self.said, self.up, self.goes, self.mounted = [], threading.Event(), threading.Event(), threading.Event()
         self.reader = threading.Thread(target=self.read)
         self.reader.start()
+
+    def keep(self, kept):
+        """The state of a guest that has started goes to a file: to start takes long."""
+        try:
+            if not self.up.wait(600):
+                raise Fault("the guest does not start")
+            with socket.socket(socket.AF_UNIX) as it:
+                it.connect(f"{kept}.qmp")
+                told = it.makefile("rw")
+                uri = f"exec:cat >{kept}.part && mv {kept}.part {kept}"
+                told.write('{"execute": "qmp_capabilities"}{"execute": "migrate", "arguments": {"uri": "%s"}}' % uri)
+                while not kept.exists():
+                    told.write('{"execute": "query-migrate"}')
+                    told.flush()
+                    line = told.readline()
+                    if not line or '"failed"' in line or '"error"' in line:
+                        raise Fault(f"the guest's state is not kept: {line}")
+                    time.sleep(0.05)
+        finally:
+            self.kill()
+
+    def go(self, first, mode):
+        """From here on the guest works: with this number, and in this mode. What it is told before it goes on is lost."""
+        self.mode = mode
+        with contextlib.suppress(BrokenPipeError):
+            while self.process.poll() is None and not self.goes.wait(0.5):
+                self.process.stdin.write(f"now {first} {mode} go\n".encode())
+                self.process.stdin.flush()
 
     def read(self):
         for line in self.process.stdout:
@@ -228,6 +355,10 @@ class Guest:
                 self.said.append(line.decode(errors="replace").strip())
                 if re.search("guest: (mounted|no )", self.said[-1]):
                     self.mounted.set()
+                if "guest: up" in self.said[-1]:
+                    self.up.set()
+                if "guest: goes" in self.said[-1]:
+                    self.goes.set()
         self.mounted.set()
 
     def numbers(self, what):
@@ -270,10 +401,11 @@ def count_pages(home, writes, cases):
 
 
 def recovered(volume, folder, cases):
-    """A copy of the home area, recovered, and the files in it."""
+    """A copy of the home area, recovered if it has a log, and the files in it."""
     copies, left = [Path(folder) / "log.copy", Path(folder) / "home.copy"], Path(folder) / "left"
     shutil.copyfile(volume.log, copies[0]), shutil.copyfile(volume.home, copies[1])
-    cases["recovered" if "recovered " in run(volume.program, "recover", *copies) else "clean"] += 1
+    if volume.has_log:
+        cases["recovered" if "recovered " in run(volume.program, "recover", *copies) else "clean"] += 1
     told = run("e2fsck", "-p", copies[1], wanted=(0, 1))
     for line in told.splitlines():
         if line and not re.search(r"recovering journal|[Oo]rphan|clean, |Setting (free|filetype)", line):
@@ -325,24 +457,32 @@ def check_database(left, before, cases):
 
 
 def one_round(at, files, first, draw, seconds, cases):
-    """A guest that was killed with its server."""
-    at.is_down = False
-    guest = Guest(*files, at.uri, first, draw.choice(("delete", "truncate", "persist", "wal")))
+    """A guest that was killed with its server. With disks of its own power may also be lost while the server opens the log."""
+    at.power_on()
+    is_early = isinstance(at, Disks) and first > 1 and draw.random() < 0.25
+    if is_early:
+        at.supply.cut_after(draw.randrange(1, 60))
+    kept = files[1].with_name("kept")
+    if not kept.exists():
+        Guest(*files, at.uris, kept).keep(kept)
+    guest = Guest(*files, at.uris, kept)
     try:
+        guest.go(first, draw.choice(MODES))
+        if is_early:
+            if not at.supply.is_cut.wait(300):
+                raise Fault("the guest does not write:\n" + "\n".join(guest.said[-20:]))
+            at.lose(guest, draw, cases)
+            cases["losses soon after the start"] += 1
+            return guest
         if not guest.mounted.wait(300) or not any("guest: mounted" in line for line in guest.said):
-            guest.kill()
             raise Fault("the guest does not mount the file system:\n" + "\n".join(guest.said[-20:]))
-        at.writes.clear()  # those that laid the pages out
-        at.flushes = 0
+        at.begin()
+        begun, told = time.time(), guest.numbers("committed")
         time.sleep(draw.uniform(0, seconds))
-        order, at.is_down = draw.choice(["server", "guest"]), True
-        if order == "guest":
-            guest.process.kill()
-        at.server.kill()
-        time.sleep(draw.uniform(0, 0.2))
-        guest.kill()
-        at.server.wait()
-        cases[f"{order} killed first"] += 1
+        if told:
+            cases[f"transactions in mode {guest.mode}"] += max(guest.numbers("committed")) - max(told)
+            cases[f"seconds in mode {guest.mode}"] += time.time() - begun
+        at.end(guest, draw, cases)
     finally:
         guest.kill()
     return guest
@@ -361,45 +501,65 @@ def round_of_files(synced, pages, volume, folder, at, files, first, draw, second
     return last + 2
 
 
-def round_of_database(volume, folder, at, files, before, draw, seconds, cases):
+def round_of_database(has_barriers, volume, folder, at, files, before, draw, seconds, cases):
     """A round after one that left so many transactions. It ends with their number."""
     guest = one_round(at, files, before, draw, seconds, cases)
-    n = check_database(recovered(volume, folder, cases)[1], before, cases)
-    if at.flushes:
-        raise Fault(f"{at.flushes} flushes reached the device")
     told = max(guest.numbers("committed"), default=before)
+    n = check_database(recovered(volume, folder, cases)[1], before, cases)
+    if not has_barriers and at.flushes:
+        raise Fault(f"{at.flushes} flushes reached the device")
+    # in this mode the folder is not synced, once the journal is removed
+    if has_barriers and told - n > (guest.mode == "delete"):
+        raise Fault(f"{n} transactions are there, and {told} were committed in mode {guest.mode}")
     cases["transactions told"] += told - before
     cases["transactions lost"] += max(0, told - n)
     cases["rounds that lost some"] += told > n
     return n
 
 
+def made_anew(volume, at):
+    """A new file system on the volume, whose server has no log; it has no transaction."""
+    run("mke2fs", "-q", "-F", "-t", "ext4", "-b", str(BLOCK), volume.home)
+    at.set()
+    return 0
+
+
 def main():
     a = argparse.ArgumentParser(description=__doc__, formatter_class=argparse.RawDescriptionHelpFormatter)
     add_program(a)
     a.add_argument("--kernel", type=Path, required=True)
+    a.add_argument("--database", action="store_true")
     a.add_argument("--no-barriers", action="store_true")
+    a.add_argument("--power", action="store_true")
+    a.add_argument("--nbdkit", action="store_true")
     a.add_argument("--rounds", type=int, default=20)
     a.add_argument("--seed", type=int, default=1)
     a.add_argument("--seconds", type=float, default=8)
     a = a.parse_args()
+    a.database, a.power = a.database or a.no_barriers or a.nbdkit, a.power or a.nbdkit
     draw, cases, synced = random.Random(a.seed), collections.Counter(), set()
-    first, play = (0, round_of_database) if a.no_barriers else (1, functools.partial(round_of_files, synced, [0] * PAGES))
+    first, play = 1, functools.partial(round_of_files, synced, [0] * PAGES)
+    if a.database:
+        first, play = 0, functools.partial(round_of_database, not a.no_barriers)
     with tempfile.TemporaryDirectory() as folder:
-        image, packed = guest_files(a.kernel, not a.no_barriers)
+        image, packed = guest_files(a)
         memory = Path(folder) / "memory"
         memory.write_bytes(packed)
         volume = Volume(a.program, folder, BLOCK, LENGTH, HOME)
+        volume.has_log = not a.nbdkit
         run("mke2fs", "-q", "-F", "-t", "ext4", "-b", str(BLOCK), volume.home)
-        with Relay(Path(folder) / "socket", volume.words()) as at:
+        with Disks(volume) if a.power else Relay(Path(folder) / "socket", volume.words()) as at:
             for k in range(a.rounds):
                 try:
                     first = play(volume, folder, at, (image, memory), first, draw, a.seconds, cases)
                     cases["rounds"] += 1
-                except (Fault, KeyboardInterrupt) as fault:
-                    print(f"round {k}: {str(fault) or 'interrupted'}")
-                    break
-    print(", ".join(f"{number} {what}" for what, number in sorted(cases.items())))
+                except (Fault, KeyboardInterrupt, sqlite3.DatabaseError) as fault:
+                    print(f"round {k}: {str(fault) or 'interrupted'}", flush=True)
+                    if isinstance(fault, KeyboardInterrupt) or not a.nbdkit:
+                        break
+                if a.nbdkit:
+                    first = made_anew(volume, at)
+    print(", ".join(f"{round(number)} {what}" for what, number in sorted(cases.items())))
     print(f"{cases['rounds']} rounds of {a.rounds} as they have to be, {len(synced)} files synced")
     return 0 if cases["rounds"] == a.rounds else 1
 

@@ -3,7 +3,7 @@
 then the server or the whole guest is killed, and a second server recovers from the legs that stayed. The volume has to be what the
 first k of the changes that were sent made of it, in their order, with k no earlier than any that an answered flush or FUA covers.
 
-    serve_raid.py --kernel FOLDER [--program PATH] [--rounds N] [--seed N] [--seconds S]
+    serve_raid.py --kernel FOLDER [--power] [--program PATH] [--rounds N] [--seed N] [--seconds S]
 
 QEMU emulates the guest in software. The client and its model stay outside, and reach the server over TCP. There are N rounds (default:
 20) over one volume, of S seconds of the requests of serve_killed.py at most (default: 4). A leg is lost as `mdadm --fail` and `--remove`
@@ -12,9 +12,12 @@ from the legs that stayed alone, as they always are after a guest was killed. No
 the log. After the look the lost legs come back empty and are filled, and in the end both legs of each array have to be equal. prefix.py
 judges, and is itself tried first. It ends with status 1 if any round is anything else than whole.
 
-A kill leaves what the disks were given: it is no loss of power of theirs. It needs Debian's qemu-system-x86, busybox-static, mdadm and
-python3-libnbd, and in FOLDER the unpacked kernel of serve_guest.py. The program is `./jbench`, which is built first, or the one at PATH;
-files are made in /dev/shm.
+A kill leaves what the disks were given: it is no loss of power of theirs. With --power all legs are disks of disks.py, and each round ends
+with a loss of power of the guest and all of them, at a drawn write, where each loses any of what it did not flush. Before it no leg may be
+lost, or one of an array, also by a loss of its own power. Power may go again while the second server opens the log.
+
+It needs Debian's qemu-system-x86, busybox-static, mdadm and python3-libnbd, and in FOLDER the unpacked kernel of serve_guest.py. The
+program is `./jbench`, which is built first, or the one at PATH; files are made in /dev/shm.
 """
 import argparse
 import collections
@@ -35,6 +38,7 @@ from pathlib import Path
 
 import nbd
 
+from disks import Disk, Supply
 from prefix import Changes, try_judge
 from serve_guest import MODULES, archive
 from serve_killed import Client
@@ -110,6 +114,8 @@ class Guest:
         words += ["-nic", f"user,model=virtio-net-pci,restrict=on{forwards}"]
         for disk in disks:
             file = {"driver": "file", "filename": f"{folder}/{disk}"}
+            if Path(f"{folder}/{disk}").is_socket():
+                file = {"driver": "nbd", "server": {"type": "unix", "path": f"{folder}/{disk}"}}
             words += ["-blockdev", json.dumps({"driver": "raw", "node-name": disk, "file": file}), "-device", json.dumps(self.disk(disk))]
         self.process = subprocess.Popen(words, stdin=subprocess.PIPE, stdout=subprocess.PIPE, stderr=subprocess.STDOUT)
         try:
@@ -176,6 +182,35 @@ class Guest:
         self.process.wait()
 
 
+class Disks:
+    """The legs, as disks that lose power with the guest."""
+
+    def __init__(self, folder):
+        self.supply = Supply()
+        self.disks = [Disk(f"{folder}/{leg}", bytes(DISK), BLOCK, self.supply) for leg in LEGS]
+
+    def cut(self, leg):
+        """A leg loses power alone: its array finds that it fails."""
+        dead = Supply()
+        dead.cut()
+        self.disks[LEGS.index(leg)].supply = dead
+
+    def lose(self, guest, draw, cases, writes=200):
+        """Power is lost at one of so many next writes; the guest lives on for a moment."""
+        self.supply.cut_after(draw.randrange(1, writes))
+        self.supply.is_cut.wait(2)
+        self.supply.cut()
+        time.sleep(draw.choice((0, 0, 0.2)))
+        guest.kill()
+        for disk in self.disks:
+            disk.supply = self.supply
+        choices = sum(disk.lose(draw) for disk in self.disks)
+        cases["losses of power"] += 1
+        cases["losses with a choice"] += choices > 0
+        cases["blocks there was a choice of"] += choices
+        self.supply.restore()
+
+
 class Arrays:
     """The two arrays, and which legs are theirs."""
 
@@ -191,6 +226,8 @@ class Arrays:
     def lose(self, leg, how):
         """A leg that is lost under its array."""
         self.stayed.remove(leg)
+        if how == "without power":
+            return
         if how == "failed":
             array, node = f"/dev/md{LEGS.index(leg) // 2}", self.guest.node(leg)
             self.guest.do(f"mdadm {array} --fail {node} && until mdadm {array} --remove {node}; do sleep 0.1; done")
@@ -208,7 +245,7 @@ class Arrays:
         self.guest.do("mdadm --stop /dev/md0 && mdadm --stop /dev/md1")
 
     def fill(self):
-        """The lost legs come back, empty."""
+        """The lost legs come back, empty; both legs of each array are made equal."""
         for leg in [leg for leg in LEGS if leg not in self.stayed]:
             array = f"/dev/md{LEGS.index(leg) // 2}"
             if leg in self.unplugged:
@@ -222,28 +259,35 @@ class Arrays:
             self.guest.do(f"mdadm --zero-superblock {node}; mdadm {array} --add {node} && {{ mdadm --wait {array} || true; }}")
             self.stayed.append(leg)
         for number in range(2):
+            self.guest.do(f"mdadm --wait /dev/md{number} || true")
             if "[UU]" not in self.guest.do(f"grep -A 1 ^md{number} /proc/mdstat"):
                 raise Fault(f"array {number} is not whole: {self.guest.do('cat /proc/mdstat')}")
 
 
-def one_round(start, guest, arrays, held, draw, seconds, cases):
-    """Requests, lost legs, a kill, and what is found then: a verdict, the bytes of the volume, and the guest that runs."""
+def one_round(start, guest, arrays, disks, held, draw, seconds, cases):
+    """Requests, lost legs, an end, and what is found then: a verdict, the bytes of the volume, and the guest that runs."""
     h = guest.connect()
     if read_all(h) != held:
         return "changed since", held, guest
     client = Client(h, Changes(held, BLOCK, capacity_of(h)), draw, cases)
     sender = threading.Thread(target=client.run, args=(draw.choice((4, 16, 64)),), daemon=True)
     sender.start()
-    for area in draw.choice((("log",), ("home",), ("log", "home"), ("home", "log"))):
+    ways = (("log",), ("home",), ("log", "home"), ("home", "log"))
+    for area in draw.choice(ways + ((),) if disks else ways):
         time.sleep(draw.uniform(0, seconds / 2))
-        how = draw.choice(("failed", "unplugged"))
-        arrays.lose(area + draw.choice("ab"), how)
+        how = draw.choice(("failed", "unplugged", "without power") if disks else ("failed", "unplugged"))
+        leg = area + draw.choice("ab")
+        arrays.lose(leg, how)
+        if how == "without power":
+            disks.cut(leg)
         cases[f"legs of {area} {how}"] += 1
     time.sleep(draw.uniform(0, seconds / 2))
     if not sender.is_alive():
         raise Fault(f"the server ended by itself: {guest.do('cat /said')}")
-    killed = draw.random() < 0.3
-    if killed:
+    killed = bool(disks) or draw.random() < 0.3
+    if disks:
+        disks.lose(guest, draw, cases)
+    elif killed:
         guest.kill()
     else:
         guest.do("killall -9 jbench; true")
@@ -251,7 +295,7 @@ def one_round(start, guest, arrays, held, draw, seconds, cases):
     if killed:
         arrays.guest = guest = start()
         arrays.unplugged.clear()
-        cases["guests killed"] += 1
+        cases["guests killed"] += not disks
     else:
         cases["servers killed"] += 1
     if killed or draw.random() < 0.5:
@@ -262,9 +306,15 @@ def one_round(start, guest, arrays, held, draw, seconds, cases):
         cases["arrays put together from the legs that stayed"] += 1
     if draw.random() < 0.3:
         with contextlib.closing(socket.create_connection(("127.0.0.1", guest.ports[10809]))):
-            time.sleep(draw.uniform(0, 0.5))
-            guest.do("killall -9 jbench; until ! pidof jbench; do sleep 0.1; done")
-        cases["openings killed"] += 1
+            if disks:
+                disks.lose(guest, draw, cases, 30)
+            else:
+                time.sleep(draw.uniform(0, 0.5))
+                guest.do("killall -9 jbench; until ! pidof jbench; do sleep 0.1; done")
+        if disks:
+            arrays.guest = guest = start()
+            arrays.assemble()
+        cases["openings cut" if disks else "openings killed"] += 1
     h = guest.connect()
     found = read_all(h)
     verdict = client.judge(found)
@@ -278,6 +328,7 @@ def main():
     a = argparse.ArgumentParser(description=__doc__, formatter_class=argparse.RawDescriptionHelpFormatter)
     add_program(a)
     a.add_argument("--kernel", type=Path, required=True)
+    a.add_argument("--power", action="store_true")
     a.add_argument("--rounds", type=int, default=20)
     a.add_argument("--seed", type=int, default=1)
     a.add_argument("--seconds", type=float, default=4)
@@ -289,7 +340,8 @@ def main():
         image, packed = guest_files(a.kernel, ["md-mod", "raid1"], programs, {10809: ("/dev/md0", "/dev/md1")})
         memory = Path(folder) / "memory"
         memory.write_bytes(packed)
-        for leg in LEGS:
+        disks = Disks(folder) if a.power else None
+        for leg in () if disks else LEGS:
             with open(f"{folder}/{leg}", "wb") as file:
                 file.truncate(DISK)
 
@@ -305,7 +357,7 @@ def main():
             held = read_all(h)
             h.shutdown()
             for k in range(a.rounds):
-                verdict, held, guest = one_round(start, guest, arrays, held, draw, a.seconds, cases)
+                verdict, held, guest = one_round(start, guest, arrays, disks, held, draw, a.seconds, cases)
                 verdicts[verdict] += 1
                 if verdict != "whole":
                     print(f"round {k}: {verdict}")
