@@ -8,7 +8,7 @@ use std::test::Fail;
 use store_example::{close, get, open, put};
 
 /// A new store's device.
-fn new_device(alloc: Global) -> Result<MemDevice> {
+pub(crate) fn new_device(alloc: Global) -> Result<MemDevice> {
     let mut device = MemDevice::new(alloc, 1024, 33, 64);
     keelsoursop::format(&mut device, 33, &[0xaa; 16], false)?;
     Ok(device)

@@ -1,23 +1,23 @@
 //! The store of four threads over a device in memory.
 
 use crate::expected::expect;
+use crate::store::new_device;
 use anyhow::Result;
-use crossbeam_channel::{Receiver, unbounded};
-use keelsoursop::MemDevice;
+use crossbeam_channel::{Receiver, Sender, unbounded};
 use std::alloc::Global;
 use std::sync::Wait;
 use std::test::Fail;
 use std::thread::Threads;
 use threads_example::{Request, serve};
 
-/// Serves requests over a new store: twenty keys at once, more than a transaction of its log can change, then other values of the first
-/// three, then what key 19 has. The sender is dropped before, so the servers end. Returns how many requests were done, and the first byte of
-/// key 19, or 0.
-fn serve_all<W: Threads + Wait + Sync>(rt: &W, alloc: Global) -> Result<(usize, u8)> {
-    let mut device = MemDevice::new(alloc, 1024, 33, 64);
-    keelsoursop::format(&mut device, 33, &[0xaa; 16], false)?;
-    let (requests, to_serve) = unbounded(alloc)?;
-    let (reply, replies) = unbounded(alloc)?;
+/// Asks for twenty keys at once, more than a transaction of the log can change, then for other values of the first three, then for what key
+/// 19 has. Its sender is dropped then, so the servers end.
+fn ask<W: Wait>(
+    rt: &W,
+    alloc: Global,
+    requests: Sender<Request>,
+    reply: Sender<Option<Vec<u8>>>,
+) -> Result<()> {
     let value = vec![in alloc; 7u8; 1024]?;
     requests.send(rt, Request::PutAll { keys: 20, value })?;
     for key in 0..3usize {
@@ -25,8 +25,15 @@ fn serve_all<W: Threads + Wait + Sync>(rt: &W, alloc: Global) -> Result<(usize, 
         requests.send(rt, Request::Put { key, value })?;
     }
     requests.send(rt, Request::Get { key: 19, reply })?;
-    drop(requests);
-    let done = serve(rt, alloc, device, to_serve)?;
+    Ok(())
+}
+
+/// Serves these requests over a new store. Returns how many were done, and the first byte of key 19, or 0.
+fn serve_all<W: Threads + Wait + Sync>(rt: &W, alloc: Global) -> Result<(usize, u8)> {
+    let (requests, to_serve) = unbounded(alloc)?;
+    let (reply, replies) = unbounded(alloc)?;
+    ask(rt, alloc, requests, reply)?;
+    let done = serve(rt, alloc, new_device(alloc)?, to_serve)?;
     Ok((done, first_byte(rt, &replies)))
 }
 
