@@ -6,7 +6,7 @@
 HOME has M MiB (default: 1024) in a sparse file, and blocks of 4096 bytes; LOG has 64 blocks, so that one handle writes few of them. A client
 has M MiB zeroed by one request, sends a read and a write of 4096 bytes each, and waits for the read: it has to be answered before the
 zeros. Then the client leaves without saying so, and the server has to end within two seconds. The next server's client reads
-where that write should be: nothing that came behind the zeros may be there. A line tells how long the read and the end took. Then the same
+where that write should be: nothing that came after the zeros may be there. A line tells how long the read and the end took. Then the same
 with a trim of what was written.
 
 Last, whether short writes that wait keep the memory of long ones: while zeros are written, a client sends short writes, one more in each of
@@ -27,7 +27,7 @@ BLOCK, LENGTH = 4096, 64
 READ, WRITE, DISCONNECT, FLUSH, TRIM, ZEROES = 0, 1, 2, 3, 4, 6
 PART = 1 << 20
 MOST, SHORT = 32 * PART, 65536  # bytes of the longest request, and of one that is handed to another task
-MARK = b"behind" + bytes(BLOCK - 6)
+MARK = b"after" + bytes(BLOCK - 5)
 
 
 class Client:
@@ -81,7 +81,7 @@ def try_one(volume, command, name):
     assert ended < 2, f"the server went on for {ended:.1f} s"
     server, connected = volume.serve()
     client = Client(connected)
-    assert client.do(READ, last, BLOCK) != MARK, "what came behind the change is there"
+    assert client.do(READ, last, BLOCK) != MARK, "what came after the change is there"
     client.leave()
     assert server.wait() == 0
     print(f"{name}: the read waited {waited * 1000:.1f} ms, the end {ended * 1000:.0f} ms")
