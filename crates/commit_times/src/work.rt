@@ -3,7 +3,7 @@ ghost use Rattle.std.specs.Prelude.{◌≡◌, ◌≤◌, IfOk, []};
 ghost use Rattle.commit_times.specs.Closed.{IsLeftClosed};
 
 use block_device::Device;
-use group_commit::{FrontCalls, Handle, Journal, Receipt, Ticket};
+use group_commit::{Handle, Journal, Receipt, Ticket};
 use jbench_words::numbers::LAST_TAKEN;
 use journal_model::{BlockNo, JournalError};
 use rand_core::{Rng, SeedableRng};

@@ -10,7 +10,6 @@ ghost use Rattle.group_commit.specs.Rounds.{KeepsRoom};
 ghost use Rattle.journal_steps.specs.Journal.{NothingToRelease};
 
 use crate::close::{finish_commit, seal_last};
-use crate::front_calls::FrontCalls;
 use crate::journal::Journal;
 use crate::ticket::{Receipt, Ticket};
 use block_device::Device;

@@ -2,13 +2,10 @@
 ghost use Rattle.std.specs.Prelude.{◌≡◌, ◌<◌, ◌≤◌, ◌≢◌, ◌↔◌, true, false, length, [], IfOk, IfErr, MatchResult, OnOk, IsTrue};
 ghost use Rattle.journal_model.specs.declared.refusal.JournalError.TheVariants.{Aborted, Memory};
 ghost use Rattle.journal_model.specs.Record.{IsLegal};
-ghost use Rattle.journal_model.specs.Transaction.{entries};
 ghost use Rattle.journal_world.specs.declared.stage.Stage.TheVariants.{Idle};
-ghost use Rattle.journal_world.specs.Front.{held};
-ghost use Rattle.journal_world.specs.Front.FrontEvent.{StopHandle};
 ghost use Rattle.journal_world.specs.Sound.{IsPlain};
 ghost use Rattle.journal_world.specs.Journal.{IsFresh, batch_of};
-ghost use Rattle.journal_world.specs.Journal.Event.{FrontStep, Seal};
+ghost use Rattle.journal_world.specs.Journal.Event.{Seal};
 ghost use Rattle.log_epochs.specs.JournalWorld.{Begins};
 ghost use Rattle.group_commit.specs.Begun.{world_of_new};
 ghost use Rattle.block_device.specs.Call.{MakesOneCall};
@@ -16,39 +13,33 @@ ghost use Rattle.log_engine.specs.Close.{IsAllReleased};
 ghost use Rattle.log_engine.specs.Left.{commit_calls};
 ghost use Rattle.log_engine.specs.Rounds.{IsRoundDue};
 ghost use Rattle.journal_steps.specs.declared.turn.CheckTurn.TheVariants.{Idle as IdleCheck};
-ghost use Rattle.journal_steps.specs.Journal.{Agrees, CheckTurnDid, CheckTurnRefused, Does, FitsQuarter, HasRoomFor, IsDuringCheckTurn, IsDuringTurn, LeavesFewerRounds, OpensNow, Requests, TurnDid, TurnRefused};
+ghost use Rattle.journal_steps.specs.Journal.{Agrees, CheckTurnDid, CheckTurnRefused, Does, HasRoomFor, IsDuringCheckTurn, IsDuringTurn, LeavesFewerRounds, OpensNow, Requests, TurnDid, TurnRefused};
 ghost use Rattle.journal_steps.specs.Legal.{KeepsLegal};
-ghost use Rattle.journal_steps.specs.Values.{together};
 ghost use Rattle.group_commit.specs.AllTurns.{IsReadyToSeal};
 ghost use Rattle.group_commit.specs.Stops.{StopsHandles, StopsOneHandle};
 ghost use Rattle.group_commit.specs.Close.{SealRefused, locked_journal};
-ghost use Rattle.journal_front.specs.Front.{IsOpenHandle};
 ghost use Rattle.group_commit.specs.Values.{StatusIs};
 ghost use Rattle.journal_steps.specs.Verbs.{LeftByRead, Reads, ReadsNewest};
 ghost use Rattle.group_commit.specs.Closes.{IsClosedWell, IsNotClosed, LogIsClosed, LogIsNotClosed};
 
 use crate::close::finish;
-use crate::front_calls::FrontCalls;
+use crate::known_front::{Itself, KnownFront};
 use crate::ticket::{Receipt, Ticket};
 use block_device::Device;
-use journal_front::{Credits, Front, Handle, Record, Unrecorded};
+use journal_front::{Front, Handle, Record, Unrecorded};
 use journal_model::{Batch, BlockNo, JournalError, Status, Tid};
 use journal_steps::{CheckTurn, Turn, steps};
 use log_engine::Engine;
 use log_ring::Layout;
 use recovery::Opened;
 use std::alloc::Global;
-use std::marker::Model;
+use std::marker::PhantomData;
 
 /// A journal on an opened log.
 ///
 /// In the errors of its calls, `Aborted` means that the device failed in an earlier call, and nothing changes (`restart` stops its
 /// handle). `Device` means that it failed in this one: the journal is then aborted, until the device is opened again.
-#[derive(Drop)]
-pub struct Journal<D: Device, R: Record = Unrecorded> {
-    pub(crate) front: Front<R>,
-    pub(crate) engine: Engine<D>,
-}
+pub type Journal<D, R = Unrecorded> = KnownFront<D, Itself, R>;
 
 /// The parts of a journal that has ended.
 #[derive(Drop)]
@@ -59,19 +50,6 @@ pub struct Parts<D, R = Unrecorded> {
     pub sealed: R,
     /// How many of them are committed.
     pub committed: u64,
-}
-
-impl<D: Device, R: Record> Model for Journal<D, R> {
-    ghost use Rattle.journal_steps.specs.Values.{JournalValue};
-    ghost use Rattle.journal_steps.specs.Journal.{Agrees};
-    ghost use Rattle.journal_steps.specs.Legal.{KeepsLegal};
-
-    ghost Value = { JournalValue D };
-
-    ghost view = { λ j. record { device = j.engine.device; journal = record { front = j.front; engine = j.engine.engine } } };
-
-    ghost invariant = { λ j. Agrees (record { front = j.front; engine = j.engine.engine })
-        × KeepsLegal D.honest (record { device = j.engine.device; journal = record { front = j.front; engine = j.engine.engine } }) };
 }
 
 impl<D: Device, R: Record> Journal<D, R> {
@@ -91,33 +69,11 @@ impl<D: Device, R: Record> Journal<D, R> {
         let layout = engine.layout();
         let credits = Layout::capacity(layout, engine.ring_blocks());
         let front = Front::new(alloc, layout, engine.home_blocks(), credits, next);
-        Ok(Journal { front, engine })
-    }
-
-    /// The journal of a front and an engine that agree.
-    pub fn of(front: Front<R>, engine: Engine<D>) -> Self
-        requires agrees { Agrees (together front engine).journal }
-        requires legal { KeepsLegal D.honest (together front engine) }
-        ensures { result ≡ together front engine }
-    {
-        Journal { front, engine }
-    }
-
-    /// Ends the journal, and answers its front and its engine.
-    pub fn into_sides(self) -> (Front<R>, Engine<D>)
-        ensures sides { together result.0 result.1 ≡ self }
-        ensures agrees { Agrees self.journal }
-        ensures legal { KeepsLegal D.honest self }
-    {
-        let Journal { front, engine } = self;
-        (front, engine)
-    }
-
-    /// Its front, for inspection.
-    pub fn front(&self) -> &Front<R>
-        ensures { result.now ≡ self.now.journal.front }
-    {
-        &self.front
+        Ok(KnownFront {
+            front,
+            engine,
+            of: PhantomData,
+        })
     }
 
     /// Bytes per block.
@@ -146,20 +102,6 @@ impl<D: Device, R: Record> Journal<D, R> {
         ensures { result ≡ self.now.journal.front.capacity }
     {
         self.front.capacity()
-    }
-
-    /// How many credits are held: in no handle yet, unused in open handles, and one for each block that the running transaction touched.
-    pub fn held(&self) -> u64
-        ensures { result ≡ held self.now.journal.front }
-    {
-        self.front.held()
-    }
-
-    /// How many entries the running transaction has: one copy or revoke for each block touched.
-    pub fn entries(&self) -> usize
-        ensures { result ≡ length (entries self.now.journal.front.running.steps) }
-    {
-        self.front.entries()
     }
 
     /// Reads one block of the home area: the running transaction's copy, else the copy being committed, else the newest committed copy,
@@ -200,22 +142,6 @@ impl<D: Device, R: Record> Journal<D, R> {
         ensures left { LeftByRead D.state D.honest self.old self.new result }
     {
         steps::read_newest(&mut self.front, &mut self.engine, block, into)
-    }
-
-    /// Ends a handle and takes back its unused credits. It always succeeds, even after a device failure; a handle not open here changes
-    /// nothing.
-    /// Source: journalling.rst (`journal_stop`).
-    pub fn stop(&mut self, handle: Handle) -> Ticket
-        ensures stops { IsOpenHandle self.old.journal.front handle → Does D.state self.old (FrontStep (StopHandle handle.number)) self.new }
-        ensures other { (IsOpenHandle self.old.journal.front handle → ⊥) → self.new ≡ self.old }
-        ensures given { self.new.journal.front.given ≡ self.old.journal.front.given }
-        ensures running { self.new.journal.front.running ≡ self.old.journal.front.running }
-        ensures ticket { result ≡ record { handle = handle.number; tid = handle.tid } }
-        ensures device { self.new.device ≡ self.old.device }
-    {
-        let ticket = Ticket::new(handle.number(), handle.tid());
-        self.front.stop_handle(handle);
-        ticket
     }
 
     /// Ends all open handles, whoever holds them, and takes back their unused credits; each of them changes nothing from then on. It always
@@ -296,13 +222,6 @@ impl<D: Device, R: Record> Journal<D, R> {
             return Err((ticket, JournalError::Aborted));
         }
         Ok(Receipt::new(ticket.handle(), ticket.tid()))
-    }
-
-    /// The commit mark: the number of the last transaction acknowledged as committed, at first one less than the first number.
-    pub fn mark(&self) -> Tid
-        ensures { result ≡ self.now.journal.front.mark }
-    {
-        self.front.mark()
     }
 
     /// Takes the next commit step: one device call of a commit, or the seal of a transaction that is locked without open handles.
@@ -405,20 +324,6 @@ impl<D: Device, R: Record> Journal<D, R> {
         steps::room_for(&self.front, &self.engine).is_some()
     }
 
-    /// Gives callers' proofs what every journal keeps, and does nothing: front and engine agree, the running transaction needs at most
-    /// a quarter of the ring, and if reads were correct each crash image opens and the record is legal.
-    pub fn recall_invariant(&self)
-        ensures plain { IsPlain self.now.journal.engine }
-        ensures agrees { Agrees self.now.journal }
-        ensures shape { self.now.journal.engine.shape ≡ (D.state self.now.device).shape }
-        ensures quarter { FitsQuarter self.now.journal }
-        ensures opens { D.honest self.now.device → OpensNow self.now.journal (D.state self.now.device).disk }
-        ensures legal { KeepsLegal D.honest self.now }
-    {
-        self.engine.recall_invariant();
-        steps::recall_quarter(&self.front, &self.engine);
-    }
-
     /// The running transaction's entries, with all memory reserved for their seal, whatever commit or checkpoint steps come first.
     pub(crate) fn ready_batch(&mut self) -> Result<Batch, JournalError>
         ensures ok { IfOk result (λ batch. batch ≡ batch_of self.old.journal.front.running) }
@@ -480,7 +385,11 @@ impl<D: Device, R: Record> Journal<D, R> {
             (λ e. LogIsNotClosed D.state D.honest self e.0.device (R.transactions e.0.sealed) e.0.committed e.1) }
     {
         self.engine.recall_invariant();
-        let Journal { front, engine } = self;
+        let KnownFront {
+            front,
+            engine,
+            of: _,
+        } = self;
         let sealed = front.into_sealed();
         let committed = engine.committed() as u64;
         match engine.close() {
@@ -509,55 +418,16 @@ impl<D: Device, R: Record> Journal<D, R> {
         ensures opens { D.honest self.device → OpensNow self.journal (D.state self.device).disk }
         ensures legal { D.honest self.device → IsLegal (R.transactions result.sealed) }
     {
-        let Journal { front, engine } = self;
+        let KnownFront {
+            front,
+            engine,
+            of: _,
+        } = self;
         let (device, committed) = engine.into_parts();
         Parts {
             device,
             sealed: front.into_sealed(),
             committed: committed as u64,
         }
-    }
-}
-
-/// A journal knows its engine.
-impl<D: Device, R: Record> FrontCalls<D> for Journal<D, R> {
-    ghost known = { λ j. j };
-
-    fn reserve(&mut self, n: u64) -> Result<Credits, JournalError> {
-        self.front.reserve(n)
-    }
-
-    fn give_back(&mut self, credits: Credits) {
-        self.front.take_back(credits);
-    }
-
-    fn try_join(&mut self, credits: Credits) -> Result<Handle, (Credits, JournalError)> {
-        self.front.join_with(credits)
-    }
-
-    fn give(
-        &mut self,
-        handle: &mut Handle,
-        credits: Credits,
-    ) -> Result<(), (Credits, JournalError)> {
-        self.front.give(handle, credits)
-    }
-
-    fn write(
-        &mut self,
-        handle: &mut Handle,
-        block: BlockNo,
-        bytes: &[u8],
-    ) -> Result<(), JournalError> {
-        self.engine.recall_invariant();
-        self.front.write(handle, block, bytes)
-    }
-
-    fn revoke(&mut self, handle: &mut Handle, block: BlockNo) -> Result<(), JournalError> {
-        self.front.revoke(handle, block)
-    }
-
-    fn request_commit(&mut self, tid: Tid) -> Result<(), JournalError> {
-        self.front.request_commit(tid)
     }
 }

@@ -4,7 +4,6 @@ ghost use Rattle.journal_world.specs.Front.{next_handle};
 ghost use Rattle.group_commit.specs.Extension.{RestartRefused, Restarts};
 ghost use Rattle.journal_front.specs.Front.{IsOpenHandle};
 
-use crate::front_calls::FrontCalls;
 use crate::journal::Journal;
 use crate::ticket::Ticket;
 use block_device::Device;

@@ -1,6 +1,6 @@
 -- The batch of a transaction of good steps; front and engine still agree after each step.
 use Rattle.std.proofs.Common.{arith, refl, sym, ap, ap₂, subst, ◌∙◌, length-append}
-use Rattle.std.specs.Prelude.{◌≡◌, ◌≢◌, ⊤, ℕ, ◌+◌, ◌/◌, ◌<◌, ◌≤◌, ◌==◌, max, Bool, true, false, if◌then◌else◌, List, [], ◌∷◌, ◌++◌, length, Option, Some, None, option_map, option_to_list, nat_eq}
+use Rattle.std.specs.Prelude.{◌≡◌, ◌≢◌, ⊤, ℕ, ◌+◌, ◌<◌, ◌≤◌, ◌==◌, max, Bool, true, false, if◌then◌else◌, List, [], ◌∷◌, ◌++◌, length, Option, Some, None, option_map, option_to_list, nat_eq}
 use Rattle.std.specs.List.{AllByRecursion, IsDistinct, filter_map}
 use Rattle.std.proofs.Math.Nat.{max-eq_left, max-eq_right}
 use Rattle.std.proofs.lemmas.Bool.Decides.{nat_tests}
@@ -16,7 +16,7 @@ use Rattle.journal_model.specs.declared.transaction.Op.{Op}
 use Rattle.journal_model.specs.declared.transaction.Op.TheVariants.{Write, Revoke as RevokeOp, Read}
 use Rattle.journal_model.specs.declared.transaction.Step.{Step}
 use Rattle.journal_model.specs.Block.{IsAllowedBlock}
-use Rattle.journal_model.specs.Layout.{IsLayout, Layout}
+use Rattle.journal_model.specs.Layout.{Layout}
 use Rattle.log_model.specs.Text.{text_blocks}
 use Rattle.log_model.specs.Chain.{Ring}
 use Rattle.log_model.specs.Opening.{greatest_number}
@@ -42,11 +42,10 @@ use Rattle.log_engine.specs.Engine.{AcceptRefused, StepRefused}
 use Rattle.log_engine.specs.Engine.AcceptRefused.{AfterFailure, MemoryIsShort}
 use Rattle.log_engine.specs.Engine.StepRefused.{WasAborted, DeviceFailed}
 use Rattle.journal_steps.specs.Journal.TurnRefused.{DeviceFailed as FailedTurn, MemoryIsShort as NoMemory}
-use Rattle.journal_steps.specs.Journal.{Agrees, FinishesCommit, FitsQuarter, HasRoomFor, IsGoodStep, IsWhole, SealIsDue, TurnRefused, need_of}
+use Rattle.journal_steps.specs.Journal.{Agrees, FinishesCommit, HasRoomFor, IsGoodStep, IsWhole, SealIsDue, TurnRefused, need_of}
 use Rattle.journal_steps.specs.Handles.{KeepsHandles}
 use Rattle.journal_steps.specs.Values.{JournalValue}
 use Rattle.journal_steps.proofs.Audited.{kept-beside, read-kept, seal-kept, step-kept}
-use Rattle.journal_steps.proofs.Quarter.{needs-quarter}
 use Rattle.journal_steps.proofs.Turning.{Keeps, fault-keeps, step-keeps}
 
 -- an allowed block is allowed under equal layout and count
@@ -270,12 +269,6 @@ agrees-sealed f old new agrees none after =
       credits = let within : held f ≤ f.capacity = agrees.credits in omega arith;
       handles = seal-kept f none agrees.handles;
     }
-
--- the running transaction takes at most a quarter of the ring
-pub quarter : (f : Front) (e : Engine) → Agrees (record { front = f; engine = e }) → IsPlain e → FitsQuarter (record { front = f; engine = e })
-quarter f e agrees plain =
-    let taken : IsLayout f.layout = subst IsLayout (sym agrees.layout) plain.layout.0 in
-    subst (λ (l : Layout). need_of l f.running ≤ e.ring.blocks / 4) agrees.layout (needs-quarter f e.ring.blocks taken agrees.capacity agrees.credits)
 
 -- the engine may take the batch of a transaction whose seal is due
 pub may-hand_over : (f : Front) (e : Engine) → Agrees (record { front = f; engine = e }) → IsPlain e → SealIsDue (record { front = f; engine = e }) →

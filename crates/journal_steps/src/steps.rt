@@ -13,7 +13,7 @@ ghost use Rattle.journal_world.specs.Journal.{batch_of};
 ghost use Rattle.block_device.specs.Call.{MakesOneCall};
 ghost use Rattle.log_engine.specs.Left.{commit_calls};
 ghost use Rattle.journal_steps.specs.declared.turn.CheckTurn.TheVariants.{Idle as IdleCheck};
-ghost use Rattle.journal_steps.specs.Journal.{Agrees, CheckTurnDid, CheckTurnRefused, FitsQuarter, HandsOut, HasRoomFor, HoldsCopy, IsDuringCheckTurn, IsDuringTurn, LeavesFewerRounds, NoCopy, SealDid, SealIsDue, TurnDid, TurnRefused, need_of};
+ghost use Rattle.journal_steps.specs.Journal.{Agrees, CheckTurnDid, CheckTurnRefused, HandsOut, HasRoomFor, HoldsCopy, IsDuringCheckTurn, IsDuringTurn, LeavesFewerRounds, NoCopy, SealDid, SealIsDue, TurnDid, TurnRefused, need_of};
 ghost use Rattle.journal_steps.specs.Unreleased.{KeptUntold, TellsKept};
 ghost use Rattle.journal_front.specs.Front.{MayStep};
 ghost use Rattle.journal_steps.specs.Values.{together};
@@ -360,15 +360,6 @@ pub fn seal_batch<D: Device, R: Record>(
     }
     front.seal();
     Ok(Turn::Sealed(tid))
-}
-
-/// Tells callers' proofs that the running transaction needs at most a quarter of the ring. It does nothing.
-pub fn recall_quarter<D: Device, R: Record>(front: &Front<R>, engine: &Engine<D>)
-    requires agrees { Agrees (together front.now engine.now).journal }
-    ensures { FitsQuarter (together front.now engine.now).journal }
-{
-    engine.recall_invariant();
-    let _front = front;
 }
 
 /// How many log blocks the running transaction needs, if the ring has as many free.

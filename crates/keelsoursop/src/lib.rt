@@ -11,8 +11,7 @@ pub mod threads;
 pub use block_device::{Device, DeviceFault, FailOnce, MemDevice, StopAt};
 pub use damaged_logs::{open_before_damage, plan_before_damage};
 pub use group_commit::{
-    CheckTurn, Credits, FrontCalls, Handle, Journal, Parts, Receipt, Record, Ticket, Turn,
-    Unrecorded,
+    CheckTurn, Credits, Handle, Journal, Parts, Receipt, Record, Ticket, Turn, Unrecorded,
 };
 pub use journal_front::KnownTransaction;
 pub use journal_model::{

@@ -2,7 +2,7 @@
 
 use crate::expected::expect;
 use block_device::{Device, MemDevice};
-use group_commit::{FrontCalls, Journal, Record, Ticket, Turn};
+use group_commit::{Journal, Record, Ticket, Turn};
 use journal_model::{Area, BlockNo, JournalError};
 use recovery::Opened;
 use std::alloc::Global;

@@ -16,7 +16,8 @@ use Rattle.journal_steps.specs.Journal.NewestRefused.{NewestRevoked}
 use Rattle.journal_steps.specs.Values.{together}
 use Rattle.journal_steps.proofs.Newest.{hands-copy}
 use Rattle.journal_steps.proofs.Reading.{kept-whole}
-use Rattle.locked_journal.specs.Sides.{HeldNewestDid, IsFrontSide}
+use Rattle.locked_journal.specs.Sides.{HeldNewestDid}
+use Rattle.locked_journal.proofs.HeldReads.{IsFrontSide}
 
 -- A refusal as `Revoked` is none as `Device`.
 not-device : (e : JournalError) → e ≡ Revoked → e ≢ Device

@@ -17,11 +17,20 @@ use Rattle.log_engine.specs.Engine.{EngineValue}
 use Rattle.journal_front.specs.Front.{MayStep}
 use Rattle.journal_front.specs.Values.{HandleValue}
 use Rattle.journal_steps.specs.Journal.{Agrees, IsGoodStep}
+use Rattle.journal_steps.specs.Legal.{KeepsLegal}
 use Rattle.journal_steps.specs.Values.{together}
 use Rattle.journal_world.specs.Journal.Event.{ReadBlock}
+use Rattle.journal_world.specs.Sound.{IsPlain}
 use Rattle.journal_steps.proofs.Audited.{read-kept}
 use Rattle.journal_steps.proofs.LegalSteps.{legal-happens}
-use Rattle.locked_journal.specs.Sides.{HeldReadDid, IsFrontSide}
+use Rattle.locked_journal.specs.Sides.{HeldReadDid}
+
+-- The front agrees with the engine as last reconciled, and its record is legal if device reads so far were correct.
+pub record IsFrontSide {D : Type 0} (state : D → DeviceState) (honest : D → Type 0) (f : Front) (reconciled : EngineValue D) : Type 0 where
+  pub agrees : Agrees (together f reconciled).journal
+  pub plain : IsPlain reconciled.engine
+  pub shape : reconciled.engine.shape ≡ (state reconciled.device).shape
+  pub legal : KeepsLegal honest (together f reconciled)
 
 -- The last effect of transactions is that of the first r, then of the later ones.
 last-from : (b r : ℕ) (ts : History) → last_effect b ts ≡ later (last_effect b (take r ts)) (last_effect b (drop r ts))

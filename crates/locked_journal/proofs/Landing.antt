@@ -4,12 +4,11 @@ use Rattle.std.specs.Prelude.{◌≡◌, Result, Ok, Err, IfErr, IfOk}
 use Rattle.journal_model.specs.declared.refusal.JournalError.{JournalError}
 use Rattle.block_device.specs.State.{DeviceState}
 use Rattle.journal_world.specs.Front.{Front}
-use Rattle.journal_world.specs.Sound.{IsPlain}
 use Rattle.log_engine.specs.Engine.{EngineValue}
 use Rattle.journal_steps.specs.Journal.{Agrees}
 use Rattle.journal_steps.specs.Legal.{KeepsLegal}
 use Rattle.journal_steps.specs.Values.{JournalValue, together}
-use Rattle.locked_journal.specs.Sides.{IsFrontSide, Reconciles, ReconcilesAnd, engine_of}
+use Rattle.locked_journal.specs.Sides.{Reconciles, ReconcilesAnd, engine_of}
 
 module _ {D : Type 0} (f : Front) (reconciled e arg : EngineValue D) (mid : JournalValue D) (view : together f reconciled ≡ mid) (engine_is : engine_of mid ≡ arg)
     (same : e ≡ arg) where
@@ -31,11 +30,10 @@ block-size {D} state front e arg mid reconciles same =
     sym (ap (λ s. s.block_size) reconciles.measures) ∙ ap (λ (v : EngineValue D). (state v.device).shape.block_size) (reconciles.engine_is ∙ sym same)
 
 -- After the step the front keeps the engine as it then is.
-pub lands : {D : Type 0} (state : D → DeviceState) (honest : D → Type 0) (front : Front) (new follower : EngineValue D) → follower ≡ new →
-    Agrees (together front new).journal → IsPlain new.engine → new.engine.shape ≡ (state new.device).shape → KeepsLegal honest (together front new) →
-    IsFrontSide state honest front follower
-lands {D} state honest front new follower is agrees plain own legal =
-    subst (λ (v : EngineValue D). IsFrontSide state honest front v) (sym is) (record { agrees = agrees; plain = plain; shape = own; legal = legal })
+pub lands : {D : Type 0} (honest : D → Type 0) (front : Front) (new seen : EngineValue D) → seen ≡ new → Agrees (together front new).journal →
+    KeepsLegal honest (together front new) → Agrees (together front seen).journal × KeepsLegal honest (together front seen)
+lands {D} honest front new seen is agrees legal =
+    subst (λ (v : EngineValue D). Agrees (together front v).journal × KeepsLegal honest (together front v)) (sym is) (agrees, legal)
 
 -- The step was one of the reconciled journal.
 pub made : {D : Type 0} (state : D → DeviceState) (front : JournalValue D) (engine : EngineValue D) (old mid new last : JournalValue D) → old ≡ mid → new ≡ last →

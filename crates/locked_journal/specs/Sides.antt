@@ -10,13 +10,12 @@ use Rattle.journal_world.specs.Front.{Front, unfinished}
 use Rattle.journal_world.specs.Front.FrontEvent.{Raise}
 use Rattle.journal_world.specs.Journal.{Happens, Journal}
 use Rattle.journal_world.specs.Journal.Event.{AbortMark, Finish, FrontStep, ReadBlock}
-use Rattle.journal_world.specs.Sound.{IsPlain}
+use Rattle.journal_world.specs.Sound.{IsPlain, OpensBetween}
 use Rattle.log_engine.specs.Engine.{EngineValue}
 use Rattle.journal_front.specs.Front.{MayStep, MayTouch}
 use Rattle.journal_front.specs.Values.{HandleValue}
 use Rattle.journal_steps.specs.Journal.{Agrees, Does, RegistersRead, NewestDid}
-use Rattle.journal_steps.specs.Legal.{KeepsLegal}
-use Rattle.journal_steps.specs.Values.{JournalValue, together}
+use Rattle.journal_steps.specs.Values.{JournalValue}
 use Rattle.locked_journal.specs.Alone.{KeptAlone, RanAlone}
 
 -- The engine of a journal, with its device.
@@ -28,12 +27,11 @@ pub record SidesValue (D : Type 0) : Type 0 where
   pub reconciler : TableId
   pub journal : JournalValue D
 
--- The front agrees with the engine as last reconciled, and its record is legal if device reads so far were correct.
-pub record IsFrontSide {D : Type 0} (state : D → DeviceState) (honest : D → Type 0) (f : Front) (reconciled : EngineValue D) : Type 0 where
-  pub agrees : Agrees (together f reconciled).journal
-  pub plain : IsPlain reconciled.engine
-  pub shape : reconciled.engine.shape ≡ (state reconciled.device).shape
-  pub legal : KeepsLegal honest (together f reconciled)
+-- What every engine keeps, also as it was last reconciled.
+pub record IsSeen {D : Type 0} (state : D → DeviceState) (honest : D → Type 0) (e : EngineValue D) : Type 0 where
+  pub plain : IsPlain e.engine
+  pub opens : honest e.device → OpensBetween e.engine.shape e.engine.accepted e.engine.committed (length e.engine.accepted) (state e.device).disk
+  pub shape : e.engine.shape ≡ (state e.device).shape
 
 -- The front agreed with an engine that went on alone to this one.
 pub record IsBehind (f : Front) (e : Engine) : Type 0 where

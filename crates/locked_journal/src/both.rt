@@ -8,7 +8,7 @@ ghost use Rattle.locked_journal.specs.Sides.{Reconciles, ReconcilesAnd, engine_o
 
 use crate::catching::catch_up;
 use crate::engine_side::{EngineSide, SidesReconciler};
-use crate::front_side::FrontSide;
+use crate::front_side::{FrontSide, UnlockedFront};
 use block_device::Device;
 use group_commit::Journal as OneJournal;
 use journal_front::{Handle, Record};
@@ -27,8 +27,9 @@ pub(crate) fn reconcile<J: PartsName, D: Device, R: Record>(
     ensures reconciled { Reconciles D.state front.old engine.old front.new }
     ensures before { D.honest engine.old.device → D.honest front.old.device }
 {
-    engine.engine.recall_invariant();
-    reconciler.reconcile(&mut front.reconciled, &mut engine.owner, &engine.engine);
+    front
+        .engine
+        .see(reconciler, &mut engine.owner, &engine.engine);
     catch_up(&mut front.front, &engine.engine);
 }
 
@@ -53,8 +54,9 @@ pub(crate) fn seal<J: PartsName, D: Device, R: Record>(
 {
     reconcile(reconciler, front, engine);
     let turn = steps::seal_due(&mut front.front, &mut engine.engine);
-    engine.engine.recall_invariant();
-    reconciler.reconcile(&mut front.reconciled, &mut engine.owner, &engine.engine);
+    front
+        .engine
+        .see(reconciler, &mut engine.owner, &engine.engine);
     turn
 }
 
@@ -80,8 +82,9 @@ pub(crate) fn read<J: PartsName, D: Device, R: Record>(
 {
     reconcile(reconciler, front, engine);
     let answer = steps::read(&mut front.front, &mut engine.engine, handle, block, into);
-    engine.engine.recall_invariant();
-    reconciler.reconcile(&mut front.reconciled, &mut engine.owner, &engine.engine);
+    front
+        .engine
+        .see(reconciler, &mut engine.owner, &engine.engine);
     answer
 }
 
@@ -106,8 +109,9 @@ pub(crate) fn read_newest<J: PartsName, D: Device, R: Record>(
 {
     reconcile(reconciler, front, engine);
     let answer = steps::read_newest(&mut front.front, &mut engine.engine, block, into);
-    engine.engine.recall_invariant();
-    reconciler.reconcile(&mut front.reconciled, &mut engine.owner, &engine.engine);
+    front
+        .engine
+        .see(reconciler, &mut engine.owner, &engine.engine);
     answer
 }
 
@@ -149,8 +153,9 @@ pub(crate) fn write_direct<J: PartsName, D: Device, R: Record>(
 {
     reconcile(reconciler, front, engine);
     let answer = steps::write_direct(&mut front.front, &mut engine.engine, block, bytes);
-    engine.engine.recall_invariant();
-    reconciler.reconcile(&mut front.reconciled, &mut engine.owner, &engine.engine);
+    front
+        .engine
+        .see(reconciler, &mut engine.owner, &engine.engine);
     answer
 }
 
@@ -171,27 +176,25 @@ pub(crate) fn sync_direct<J: PartsName, D: Device, R: Record>(
 {
     reconcile(reconciler, front, engine);
     let answer = steps::sync_direct(&mut front.front, &mut engine.engine);
-    engine.engine.recall_invariant();
-    reconciler.reconcile(&mut front.reconciled, &mut engine.owner, &engine.engine);
+    front
+        .engine
+        .see(reconciler, &mut engine.owner, &engine.engine);
     answer
 }
 
 /// Reconciles both sides and makes them a journal of one thread.
 pub(crate) fn into_single<J: PartsName, D: Device, R: Record>(
     reconciler: &SidesReconciler<J, D>,
-    front: FrontSide<J, D, R>,
+    front: UnlockedFront<J, D, R>,
     engine: EngineSide<J, D>,
 ) -> OneJournal<D, R>
     ensures reconciled { Reconciles D.state front engine result }
     ensures before { D.honest engine.device → D.honest front.device }
 {
-    let mut front = front;
+    let UnlockedFront { mut side } = front;
     let mut engine = engine;
-    reconcile(reconciler, &mut front, &mut engine);
-    let FrontSide {
-        front,
-        reconciled: _,
-    } = front;
+    reconcile(reconciler, &mut side, &mut engine);
+    let (front, _seen) = side.into_sides();
     let EngineSide { engine, owner: _ } = engine;
     OneJournal::of(front, engine)
 }

@@ -11,7 +11,7 @@ ghost use Rattle.locked_journal.specs.Known.{own_of_ticket};
 use crate::both;
 use crate::known::{Knowing, Recorded, look};
 use crate::locked::{Counters, Locked, Tally};
-use crate::name::{EngineSide, SidesReconciler};
+use crate::name::{EngineSide, SidesReconciler, UnlockedFront};
 use crate::stopped::SharedReceipt;
 use block_device::Device;
 use group_commit::{Journal as OneJournal, Record};
@@ -59,7 +59,7 @@ impl<J: JournalName, D: Device, R: Record> Exclusive<J, D, R> {
             knowing,
             mut recorded,
         } = locked;
-        let journal = both::into_single(reconciler, journal, engine);
+        let journal = both::into_single(reconciler, UnlockedFront { side: journal }, engine);
         knowing.go_on(&mut recorded, journal.front());
         let notified = journal.mark();
         counters.mark.raise(&mut raiser, notified);

@@ -7,9 +7,9 @@ ghost use Rattle.group_commit.specs.Begun.{world_of_new};
 ghost use Rattle.locked_journal.specs.Sides.{engine_of};
 
 use crate::engine_side::{Alone, EngineSide, SidesReconciler};
-use crate::front_side::FrontSide;
+use crate::front_side::{SeenEngine, UnlockedFront};
 use block_device::Device;
-use group_commit::Journal as OneJournal;
+use group_commit::{Journal as OneJournal, KnownFront};
 use journal_front::{Front, Record, Unrecorded};
 use journal_model::JournalError;
 use log_engine::Engine;
@@ -81,7 +81,11 @@ impl<D: Device, R: Record> UnnamedSides<D, R> {
     /// The sides of the journal that J names, and their reconciler. The caller must show that J names this reconciler.
     pub fn named<J: PartsName>(
         self,
-    ) -> (SidesReconciler<J, D>, FrontSide<J, D, R>, EngineSide<J, D>)
+    ) -> (
+        SidesReconciler<J, D>,
+        UnlockedFront<J, D, R>,
+        EngineSide<J, D>,
+    )
         requires { self.reconciler ≡ J.parts }
         ensures front { result.1 ≡ self.journal }
         ensures engine { result.2 ≡ engine_of self.journal }
@@ -92,10 +96,11 @@ impl<D: Device, R: Record> UnnamedSides<D, R> {
             engine,
             reconciler,
         } = self;
-        let (reconciler, reconciled, owner) = reconciler.named::<J>(&engine);
+        let (reconciler, follower, owner) = reconciler.named::<J>(&engine);
+        let side = KnownFront::of(front, SeenEngine { follower });
         (
             reconciler,
-            FrontSide { front, reconciled },
+            UnlockedFront { side },
             EngineSide { engine, owner },
         )
     }

@@ -2,7 +2,7 @@
 ghost use Rattle.std.specs.Prelude.{◌≡◌, length, IfOk};
 
 use block_device::{FailOnce, MemDevice, StopAt};
-use group_commit::{FrontCalls, Handle, Journal, Parts};
+use group_commit::{Handle, Journal, Parts};
 use journal_model::{BlockNo, JournalError, Sealed};
 use journal_script::NamedBlocks;
 use log_rows::RowError;

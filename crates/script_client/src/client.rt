@@ -12,7 +12,7 @@ ghost use Rattle.journal_steps.specs.Direct.{DirectSyncRefused, DirectWriteRefus
 ghost use Rattle.journal_steps.specs.Journal.{CheckTurnDid, CheckTurnRefused, Does, RegistersRead, ReadRefused, Requests, TurnDid, TurnRefused};
 
 use block_device::Device;
-use group_commit::{CheckTurn, FrontCalls, Handle, Journal, Parts, Receipt, Status, Ticket, Turn};
+use group_commit::{CheckTurn, Handle, Journal, Parts, Receipt, Status, Ticket, Turn};
 use journal_model::{BlockNo, JournalError, Sealed, Tid};
 use journal_script::Operation;
 use recovery::Opened;

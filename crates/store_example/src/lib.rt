@@ -11,7 +11,7 @@ mod files;
 
 use anyhow::{Result, bail};
 pub use files::device;
-use keelsoursop::{BlockNo, Device, FrontCalls, Handle, Journal, JournalError, Receipt, Ticket};
+use keelsoursop::{BlockNo, Device, Handle, Journal, JournalError, Receipt, Ticket};
 use std::alloc::Global;
 
 /// The index.

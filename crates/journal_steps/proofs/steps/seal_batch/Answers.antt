@@ -8,7 +8,8 @@ use Rattle.journal_world.specs.Front.{Front, MaySeal}
 use Rattle.log_ledger.specs.Steps.{MayHandOver}
 use Rattle.log_engine.specs.Engine.{EngineValue}
 use Rattle.journal_steps.specs.Journal.{Agrees, HasRoomFor, TurnRefused}
-use Rattle.journal_steps.proofs.Sealing.{agrees-sealed, all-told, may-hand_over, quarter, refused-seal, room-good}
+use Rattle.journal_steps.proofs.Quarter.{quarter}
+use Rattle.journal_steps.proofs.Sealing.{agrees-sealed, all-told, may-hand_over, refused-seal, room-good}
 use Rattle.journal_steps.proofs.steps.seal_batch.Goals as goal
 
 -- an answer with a number is some answer

@@ -1,0 +1,19 @@
+use Rattle.std.proofs.Common.{◌≡◌}
+use Rattle.group_commit.specs.Calls.{CallsForTurns}
+use Rattle.group_commit.specs.Close.{Went}
+use Rattle.group_commit.specs.During.{HoldsDuringRounds}
+use Rattle.group_commit.specs.Rounds.{TakesDueTurns}
+use Rattle.group_commit.proofs.all_turns.Journal+D+R.keep_room.Given as goal
+
+-- so many checkpoint turns were taken, and none failed; they leave the commit and the front
+abbrev pub invariant-loop : goal.invariant-loop
+invariant-loop g l = record {
+  went : Went g.D.Device.state l.fn.self l.self;
+  takes : TakesDueTurns g.D.Device.state l.fn.self l.counter l.self;
+  stage : l.self.journal.engine.stage ≡ l.fn.self.journal.engine.stage;
+  committed : l.self.journal.engine.committed ≡ l.fn.self.journal.engine.committed;
+  front : l.self.journal.front ≡ l.fn.self.journal.front;
+  calls : CallsForTurns g.D.Device.state l.fn.self l.self;
+  each : g.D.Device.honest l.self.device → HoldsDuringRounds g.D.Device.state l.fn.self l.self;
+  honest : g.D.Device.honest l.self.device → g.D.Device.honest l.fn.self.device;
+}

@@ -1,0 +1,10 @@
+use Rattle.journal_steps.specs.Values.{together}
+use Rattle.journal_steps.proofs.LegalSteps.{turn-legal}
+use Rattle.group_commit.proofs.journal.Journal+D+R.commit_turn.Goals as goal
+
+pub returns-clause-device : goal.returns-clause-device
+returns-clause-device g c = rw (← c.self.view_is) c.commit_turn.ensures.device
+
+pub invariant_of-self : goal.invariant_of-self
+invariant_of-self g c =
+    (c.commit_turn.ensures.agrees, turn-legal g.D.Device.state g.D.Device.honest (together c.self.inside.front c.self.inside.engine) (together c.commit_turn.new.front c.commit_turn.new.engine) c.commit_turn.ensures.device.honest c.self.invariant.1 c.commit_turn.result c.commit_turn.ensures.ok c.commit_turn.ensures.err)

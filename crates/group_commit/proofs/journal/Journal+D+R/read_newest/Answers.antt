@@ -1,0 +1,10 @@
+use Rattle.group_commit.proofs.journal.Journal+D+R.read_newest.Goals as goal
+
+pub invariant_of-self : goal.invariant_of-self
+invariant_of-self g c = (c.read_newest.ensures.agrees, c.read_newest.ensures.left.legal c.self.invariant.1)
+
+pub returns-clause-reads : goal.returns-clause-reads
+returns-clause-reads g c = rw (← c.self.view_is) c.read_newest.ensures.reads
+
+pub returns-clause-left : goal.returns-clause-left
+returns-clause-left g c = rw (← c.self.view_is) c.read_newest.ensures.left

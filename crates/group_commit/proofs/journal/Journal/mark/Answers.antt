@@ -1,4 +1,0 @@
-use Rattle.group_commit.proofs.journal.Journal.mark.Goals as goal
-
-pub returns : goal.returns
-returns g c = rw (← c.self.view_is) cc
