@@ -3,6 +3,7 @@ ghost use Rattle.std.specs.Prelude.{◌≡◌, ◌<◌, ℕ, length, OnOk, OnErr
 ghost use Rattle.block_device.specs.State.{DeviceState, blocks_in, CountsCall, CountsFaults, HoldsWholeBlocks, Stays, Moves, Writes};
 ghost use Rattle.journal_model.specs.Disk.{written, flushed};
 
+use crate::syncing::{Durable, Syncing};
 use journal_model::{Area, JournalError};
 use std::error::Error;
 use std::fmt;
@@ -81,6 +82,21 @@ pub trait Device {
         ensures faults { CountsFaults result (state self.old) (state self.new) }
         ensures calls { CountsCall (state self.old) (state self.new) }
         ensures honest { honest self.new → honest self.old };
+
+    /// Hands the system what was written, and returns what waits for an area's flush without the device, if the device has that. It is no
+    /// call that counts, and the disk stays. A failure shows in the flush.
+    fn begin_flush(&mut self, _area: Area) -> Option<Syncing>
+        ensures begun { state self.new ≡ state self.old }
+        ensures honest { honest self.new → honest self.old }
+    {
+        None
+    }
+
+    /// Takes what came of such a wait. The area's next flush need not wait if nothing was written to it since the wait began.
+    fn end_flush(&mut self, _durable: Durable)
+        ensures ended { state self.new ≡ state self.old }
+        ensures honest { honest self.new → honest self.old }
+    {}
 
     /// The number of blocks of an area.
     fn blocks(&self, area: Area) -> u64

@@ -13,6 +13,7 @@ mod memory_index;
 mod reading;
 mod stop;
 mod stored;
+mod syncing;
 
 pub use device::{Device, DeviceFault};
 pub use fail::FailOnce;
@@ -21,3 +22,4 @@ pub use memory::{Call, MemDevice, Write};
 pub use reading::read_block;
 pub use stop::StopAt;
 pub use stored::StoredBlock;
+pub use syncing::{Durable, Syncing};

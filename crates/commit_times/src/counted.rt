@@ -2,7 +2,7 @@
 ghost use Rattle.std.specs.Prelude.{◌≡◌};
 ghost use Rattle.commit_times.specs.Counting.{calls_on, sum_of, with_call};
 
-use block_device::{Device, DeviceFault};
+use block_device::{Device, DeviceFault, Durable, Syncing};
 use journal_model::Area;
 
 /// The calls on an area, by kind.
@@ -114,6 +114,14 @@ impl<D: Device> Device for Counted<D> {
     fn flush(&mut self, area: Area) -> Result<(), DeviceFault> {
         self.count(area, FLUSH);
         self.device.flush(area)
+    }
+
+    fn begin_flush(&mut self, area: Area) -> Option<Syncing> {
+        self.device.begin_flush(area)
+    }
+
+    fn end_flush(&mut self, durable: Durable) {
+        self.device.end_flush(durable);
     }
 
     fn blocks(&self, area: Area) -> u64 {

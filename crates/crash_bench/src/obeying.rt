@@ -12,9 +12,10 @@ use commit_times::{bench, threads as timed};
 use file_device::{Contents, FileDevice};
 use jbench_commands::obeying as one_thread;
 use jbench_commands::progress::ProgressLine;
-use jbench_files::{ScriptText, device_of, open_pair_within};
+use jbench_files::{ScriptText, device_of, open_again, open_pair_within};
 use jbench_words::fault::{CommandStatus, refuse, refuse_file};
 use jbench_words::words::{BenchWords, CommandWords, ServeWords};
+use journal_model::Area;
 use nbd_server::Every;
 use std::io;
 use std::io::{BufWriter, Write};
@@ -166,6 +167,12 @@ fn serve_device<T: Threads + Wait + Clock + Sync, C: Contents + Send, E: Write>(
 ) -> io::Result<Option<FileDevice<C>>>
     ensures { IfOk result (λ done. IfSome done (IsClosedLeft C.contents)) }
 {
+    let mut device = device;
+    for (area, path) in [(Area::Log, words.paths.log), (Area::Home, words.paths.home)] {
+        if let Ok(file) = open_again(rt, path) {
+            device.sync_by(area, file);
+        }
+    }
     let out = BufWriter::with_capacity(rt.alloc(), GATHERED, rt.stdout())?;
     let ahead = HomePrefetch::new(device.fetcher(), threads);
     let interval = Every {

@@ -2,7 +2,7 @@
 ghost use Rattle.std.specs.Prelude.{◌≡◌};
 ghost use Rattle.journal_model.specs.Layout.{header_bytes};
 
-use block_device::{Device, DeviceFault};
+use block_device::{Device, DeviceFault, Durable, Syncing};
 use file_device::{Contents, FileDevice};
 use jbench_files::say_failure;
 use jbench_words::numbers::LAST_TAKEN;
@@ -140,6 +140,14 @@ impl<D: Device + SaysFailure, E: Write> Device for Telling<'_, D, E> {
     fn flush(&mut self, area: Area) -> Result<(), DeviceFault> {
         let done = self.device.flush(area);
         self.tell(done)
+    }
+
+    fn begin_flush(&mut self, area: Area) -> Option<Syncing> {
+        self.device.begin_flush(area)
+    }
+
+    fn end_flush(&mut self, durable: Durable) {
+        self.device.end_flush(durable);
     }
 
     fn blocks(&self, area: Area) -> u64 {

@@ -162,7 +162,15 @@ failed_for_good s call =
 abbrev pub handed_on : FileState → FileState
 handed_on s = record s { gathered = []; calls = s.gathered ++ s.calls }
 
--- the write of the gathered blocks failed: the device keeps them, and writes and flushes no more
+-- the write of the gathered blocks failed: the device keeps them
+pub record FailsToWrite (old new : FileState) : Type 0 where
+  pub area : Area
+  pub at : ℕ
+  pub bytes : List ℕ
+  pub were : old.gathered ≡ writes_of area at old.block_size bytes (length bytes / old.block_size)
+  pub after : new ≡ record old { calls = GatheredFailed area at bytes ∷ old.calls }
+
+-- so it did, and the device writes and flushes no more
 pub record FailsToHandOn (old new : FileState) : Type 0 where
   pub area : Area
   pub at : ℕ

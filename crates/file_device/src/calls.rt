@@ -4,9 +4,11 @@ ghost use Rattle.std.specs.Prelude.{◌≡◌, ◌+◌, ◌/◌, ◌<◌, ◌≤
 ghost use Rattle.journal_model.specs.declared.number.Area.TheVariants.{Home};
 ghost use Rattle.file_device.specs.Calls.{Measured, Read, ReadFailed, Wrote, WriteFailed, GatheredFailed, Synced, SyncFailed};
 
+use crate::apart::are_openings_of_one;
 use crate::history::{History, Note};
 use crate::length::length_of;
 use crate::unmeasured::Unmeasured;
+use block_device::Durable;
 use journal_model::Area;
 use std::fs::File;
 use std::io;
@@ -37,6 +39,14 @@ impl NotedFiles {
     /// Home's file once more, for `Fetcher`; `None` if there is none, or the system gives no more.
     pub(crate) fn home_again(&self) -> Option<File> {
         self.home.as_ref()?.try_clone().ok()
+    }
+
+    /// Whether this is another opening of an area's file.
+    pub(crate) fn is(&self, area: Area, other: &File) -> bool {
+        match self.file(area) {
+            Some(file) => are_openings_of_one(file, other),
+            None => false,
+        }
     }
 
     fn file(&self, area: Area) -> Option<&File>
@@ -168,14 +178,15 @@ impl NotedFiles {
         answer
     }
 
-    /// Makes durable what was written into an area's file, if it has one.
-    pub(crate) fn sync(&mut self, area: Area) -> io::Result<()>
+    /// Makes durable what was written into an area's file, if it has one. If that was done apart since the file's last change, it makes no
+    /// call.
+    pub(crate) fn sync(&mut self, area: Area, durable: Option<Durable>) -> io::Result<()>
         ensures ok { OnOk result (self.new ≡ with_call self.old (Synced area)) }
         ensures err { OnErr result (self.new ≡ with_call self.old (SyncFailed area)) }
     {
         let answer = match self.file(area) {
-            Some(file) => file.sync_data(),
-            None => Ok(()),
+            Some(file) if durable.is_none() => file.sync_data(),
+            _ => Ok(()),
         };
         self.history = match answer {
             Ok(()) => self.history.then(&Note::Synced(area)),

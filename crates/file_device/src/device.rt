@@ -16,12 +16,13 @@ ghost use Rattle.block_device.specs.State.{one_more_fault};
 ghost use Rattle.file_device.specs.Files.{FileContents, counted};
 
 use crate::ahead::{Ahead, MOST_BYTES, copy_block};
+use crate::apart::{Apart, are_openings_of_one};
 use crate::calls::NotedFiles;
 use crate::failure::{FailedCall, Failure};
 use crate::fetching::Fetcher;
 use crate::gathered::Gathered;
 use crate::unmeasured::Unmeasured;
-use block_device::{Device, DeviceFault};
+use block_device::{Device, DeviceFault, Durable, Syncing};
 use journal_model::Area;
 use std::alloc::Global;
 use std::fs::File;
@@ -78,6 +79,7 @@ pub struct FileDevice<C: Contents> {
     calls_made: u64,
     ahead: Ahead,
     gathered: Gathered,
+    apart: Apart,
     failure: Option<Failure>,
 }
 
@@ -97,6 +99,7 @@ impl<C: Contents> Drop for FileDevice<C> {
             calls_made: _,
             ahead: _,
             gathered: _,
+            apart: _,
             failure: _,
         } = self;
     }
@@ -146,7 +149,7 @@ impl<C: Contents> FileDevice<C> {
     ghost use Rattle.journal_model.specs.declared.number.Area.TheVariants.{Home, Log};
     ghost use Rattle.file_device.specs.Ahead.{HasRead, HasFailedRead};
     ghost use Rattle.file_device.specs.Calls.{Wrote, WriteFailed};
-    ghost use Rattle.file_device.specs.Files.{FailsToHandOn, HasAgreed, bytes_in, file_shape, file_state, files_disk, handed_on, new_device};
+    ghost use Rattle.file_device.specs.Files.{FailsToHandOn, FailsToWrite, HasAgreed, bytes_in, file_shape, file_state, files_disk, handed_on, new_device};
 
     /// Makes a device with blocks of `block_size` bytes over two files, each a regular one or a block device, open for reading, and for
     /// writing if the device is to be written. Their names and lengths are not synced here. The value of `C` is consumed, so that it stands
@@ -203,8 +206,18 @@ impl<C: Contents> FileDevice<C> {
             calls_made: 0,
             ahead: Ahead::new(alloc),
             gathered: Gathered::new(alloc),
+            apart: Apart::new(),
             failure: None,
         })
+    }
+
+    /// Has flushes of an area waited for by another opening of its file (`Device::begin_flush`). Another file is not taken.
+    pub fn sync_by(&mut self, area: Area, file: File)
+        ensures { self.new ≡ self.old }
+    {
+        if self.files.is(area, &file) {
+            self.apart.give(area, file);
+        }
     }
 
     /// What fetches bytes of home; `None` if there is no home, or the system opens no more files.
@@ -360,6 +373,7 @@ impl<C: Contents> FileDevice<C> {
     {
         self.ahead.forget(area);
         self.gathered.begin_at(area, n.saturating_add(1));
+        self.apart.note_change(area);
         let at = place_of(n, self.size, self.length(area));
         match self.files.write(area, at, bytes) {
             Ok(()) => Ok(()),
@@ -371,6 +385,17 @@ impl<C: Contents> FileDevice<C> {
         ensures ok { OnOk result (self.new ≡ handed_on self.old) }
         ensures err { OnErr result (FailsToHandOn self.old self.new) }
     {
+        match self.write_gathered() {
+            Ok(()) => Ok(()),
+            Err(failure) => Err(self.fail(failure)),
+        }
+    }
+
+    /// Writes the gathered blocks. A failure is not counted.
+    fn write_gathered(&mut self) -> Result<(), Failure>
+        ensures ok { OnOk result (self.new ≡ handed_on self.old) }
+        ensures err { OnErr result (FailsToWrite self.old self.new) }
+    {
         if self.gathered.count == 0 {
             return Ok(());
         }
@@ -378,19 +403,16 @@ impl<C: Contents> FileDevice<C> {
         let FileDevice {
             files,
             gathered,
+            apart,
             ..
         } = self;
         let at = gathered.first * size as u64;
-        match files.write_blocks(gathered.area, at, size, &gathered.bytes) {
-            Ok(()) => {
-                gathered.begin_at(gathered.area, gathered.first.saturating_add(gathered.count));
-                Ok(())
-            }
-            Err(error) => {
-                let failure = Failure::new(gathered.area, FailedCall::Write(at), error);
-                Err(self.fail(failure))
-            }
+        apart.note_change(gathered.area);
+        if let Err(error) = files.write_blocks(gathered.area, at, size, &gathered.bytes) {
+            return Err(Failure::new(gathered.area, FailedCall::Write(at), error));
         }
+        gathered.begin_at(gathered.area, gathered.first.saturating_add(gathered.count));
+        Ok(())
     }
 
     fn length(&self, area: Area) -> u64
@@ -521,10 +543,29 @@ impl<C: Contents> Device for FileDevice<C> {
         self.check_usable()?;
         self.hand_on()?;
         self.ahead.count = 0;
-        match self.files.sync(area) {
+        let durable = self.apart.take(area);
+        match self.files.sync(area, durable) {
             Ok(()) => Ok(()),
             Err(error) => Err(self.fail(Failure::new(area, FailedCall::Sync, error))),
         }
+    }
+
+    fn begin_flush(&mut self, area: Area) -> Option<Syncing> {
+        if self.has_failed {
+            return None;
+        }
+        match self.write_gathered() {
+            Ok(()) => self.apart.begin(area),
+            Err(failure) => {
+                self.has_failed = true;
+                self.failure = Some(failure);
+                None
+            }
+        }
+    }
+
+    fn end_flush(&mut self, durable: Durable) {
+        self.apart.end(durable);
     }
 
     fn blocks(&self, area: Area) -> u64 {

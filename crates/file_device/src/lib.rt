@@ -6,6 +6,7 @@
 #![tactic(auto)]
 
 mod ahead;
+mod apart;
 mod calls;
 mod device;
 mod durability;

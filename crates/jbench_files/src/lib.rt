@@ -32,7 +32,9 @@ pub use pairs::{
     HomeFile, KeptHome, KeptPair, LockedPair, LogFile, LogPair, ReadPair, Unopened,
     open_or_make_image, open_or_make_log, open_or_make_pair, open_script,
 };
-pub use regular::{Identity, RegularFile, Sectors, names_device, open_to_read, sectors_at};
+pub use regular::{
+    Identity, RegularFile, Sectors, names_device, open_again, open_to_read, sectors_at,
+};
 pub use text::{ScriptText, TextFile, open_text};
 pub use unfit::Unfit;
 pub use waiting::open_pair_within;

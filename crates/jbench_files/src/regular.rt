@@ -354,6 +354,16 @@ pub fn open_to_read<R: Files<File = File>>(rt: &R, path: &str) -> io::Result<Reg
     open_as(rt, OpenOptions::new().read(true), path)
 }
 
+/// Opens a regular file or a block device once more, to sync it.
+///
+/// # Errors
+///
+/// Those of `open_to_read`.
+pub fn open_again<R: Files<File = File>>(rt: &R, path: &str) -> io::Result<File> {
+    let RegularFile { file, .. } = open_to_read(rt, path)?;
+    Ok(file)
+}
+
 /// Opens a script to read: a regular file, a pipe, or standard input for the path `-`.
 ///
 /// # Errors

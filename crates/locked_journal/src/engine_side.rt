@@ -6,8 +6,8 @@ ghost use Rattle.log_engine.specs.Left.{LeavesFewer, commit_calls, round_calls};
 ghost use Rattle.log_engine.specs.Rounds.{IsRoundDue};
 ghost use Rattle.locked_journal.specs.Alone.{StepsAlone};
 
-use block_device::Device;
-use journal_model::JournalError;
+use block_device::{Device, Durable, Syncing};
+use journal_model::{Area, JournalError};
 use log_engine::{Engine, Progress};
 use parts::{Owner, PartsName, Reconciler, Since};
 use std::marker::{Model, PhantomData};
@@ -85,6 +85,42 @@ impl<J: PartsName, D: Device> EngineSide<J, D> {
         let step = self.engine.checkpoint_step();
         reconciler.go_on(&mut self.owner, &self.engine);
         step
+    }
+
+    /// As `Engine::begin_flush`, if the commit's next step is a flush.
+    pub fn begin_commit_flush(&mut self, reconciler: &SidesReconciler<J, D>) -> Option<Syncing>
+        ensures alone { StepsAlone D.state self.old self.new }
+        ensures engine { self.new.engine ≡ self.old.engine }
+    {
+        let area = self.engine.commit_flush()?;
+        self.begin_flush(reconciler, area)
+    }
+
+    /// As `Engine::begin_flush`, if the round's next step is a flush.
+    pub fn begin_round_flush(&mut self, reconciler: &SidesReconciler<J, D>) -> Option<Syncing>
+        ensures alone { StepsAlone D.state self.old self.new }
+        ensures engine { self.new.engine ≡ self.old.engine }
+    {
+        let area = self.engine.round_flush()?;
+        self.begin_flush(reconciler, area)
+    }
+
+    fn begin_flush(&mut self, reconciler: &SidesReconciler<J, D>, area: Area) -> Option<Syncing>
+        ensures alone { StepsAlone D.state self.old self.new }
+        ensures engine { self.new.engine ≡ self.old.engine }
+    {
+        let syncing = self.engine.begin_flush(area);
+        reconciler.go_on(&mut self.owner, &self.engine);
+        syncing
+    }
+
+    /// As `Engine::end_flush`.
+    pub fn end_flush(&mut self, reconciler: &SidesReconciler<J, D>, durable: Durable)
+        ensures alone { StepsAlone D.state self.old self.new }
+        ensures engine { self.new.engine ≡ self.old.engine }
+    {
+        self.engine.end_flush(durable);
+        reconciler.go_on(&mut self.owner, &self.engine);
     }
 
     /// Whether a checkpoint round is due, as `Engine::is_round_due`.

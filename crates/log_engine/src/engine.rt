@@ -23,7 +23,7 @@ ghost use Rattle.log_engine.specs.Rounds.{IsRoundDue};
 
 use crate::call::make_call;
 use crate::close::write_first;
-use block_device::Device;
+use block_device::{Device, Durable, Syncing};
 use block_tables::LastEffects;
 use checkpoint::Pending;
 use journal_model::{Area, Batch, BlockNo, JournalError, LogLayout};
@@ -297,6 +297,37 @@ impl<D: Device> Engine<D> {
             return Err(JournalError::Device);
         }
         Ok(self.ledger.advance_round())
+    }
+
+    /// If the next device call of a commit or a round is a flush, begins it, and returns what waits for it without the engine. The call is
+    /// still to be made, and then need not wait.
+    ///
+    /// Source: fs/jbd2/commit.c by behaviour: nobody's reads wait for a commit's flush.
+    pub fn begin_flush(&mut self, area: Area) -> Option<Syncing>
+        ensures engine { self.new.engine ≡ self.old.engine }
+        ensures device { D.state self.new.device ≡ D.state self.old.device }
+        ensures honest { D.honest self.new.device → D.honest self.old.device }
+    {
+        self.device.begin_flush(area)
+    }
+
+    /// The area that the commit's next device call flushes, if that is a flush.
+    pub fn commit_flush(&self) -> Option<Area> {
+        self.ledger.commit_flush()
+    }
+
+    /// The area that the round's next device call flushes, if that is a flush.
+    pub fn round_flush(&self) -> Option<Area> {
+        self.ledger.round_flush()
+    }
+
+    /// Takes what came of such a wait.
+    pub fn end_flush(&mut self, durable: Durable)
+        ensures engine { self.new.engine ≡ self.old.engine }
+        ensures device { D.state self.new.device ≡ D.state self.old.device }
+        ensures honest { D.honest self.new.device → D.honest self.old.device }
+    {
+        self.device.end_flush(durable);
     }
 
     /// Reads one block: its newest committed copy, else what home reads. A pending copy needs no device call.

@@ -1,9 +1,10 @@
 //! Which device call of a commit is due: the superblock of a clean log, the transaction's blocks, its commit block, each
 //! after the flush of what it relies on.
 //! Source: fs/jbd2/commit.c by behaviour; that each step is one device call is this project's own.
-ghost use Rattle.std.specs.Prelude.{◌≡◌, ◌≢◌, ◌+◌, ◌-◌, ◌<◌, ◌≤◌, if◌then◌else◌, nat_lt, length, slice_get, Some};
+ghost use Rattle.std.specs.Prelude.{◌≡◌, ◌≢◌, ◌+◌, ◌-◌, ◌<◌, ◌≤◌, if◌then◌else◌, nat_lt, length, slice_get, IfSome, Some};
 ghost use Rattle.journal_model.specs.Disk.{Shape};
 ghost use Rattle.journal_world.specs.declared.stage.Stage.TheVariants.{Idle, Blocks, CommitFlush, CommitWrite, SuperblockWrite};
+ghost use Rattle.journal_world.specs.Call.Call.{Flush};
 ghost use Rattle.journal_world.specs.Engine.{call_due, due_blocks, stepped, stepped_from, write_block};
 ghost use Rattle.journal_world.specs.Sound.{IsPlain};
 ghost use Rattle.log_ledger.specs.declared.progress.Progress.TheVariants.{Step, Done};
@@ -65,6 +66,18 @@ impl Ledger {
             Stage::Blocks(k) if k + 1 < self.blocks_due() => self.due_block(writer, plan, k),
             Stage::CommitWrite => self.due_block(writer, plan, self.blocks_due() - 1),
             Stage::SuperblockFlush | Stage::Blocks(_) | Stage::CommitFlush => Due::Flush(Area::Log),
+        }
+    }
+
+    /// The area of the due call, if that is a flush.
+    pub fn commit_flush(&self) -> Option<Area>
+        requires can_run { CanRunOn self.now (length self.now.superblock.items) }
+        ensures { IfSome result (λ area. (shape : Shape) → shape.block_size ≡ length self.now.superblock.items → call_due (engine_of shape self.now) ≡ Some (Flush area)) }
+    {
+        match self.stage {
+            Stage::Idle | Stage::SuperblockWrite | Stage::CommitWrite => None,
+            Stage::Blocks(k) if k + 1 < self.blocks_due() => None,
+            Stage::SuperblockFlush | Stage::Blocks(_) | Stage::CommitFlush => Some(Area::Log),
         }
     }
 

@@ -2,11 +2,12 @@
 //! tail. Its flush frees log blocks.
 //! Source: fs/jbd2/checkpoint.c by behaviour; the order of the copies and that each step is one device call are this
 //! project's own.
-ghost use Rattle.std.specs.Prelude.{◌≡◌, ◌≢◌, ◌+◌, ◌-◌, ◌<◌, ℕ, IsTrue, false, length};
+ghost use Rattle.std.specs.Prelude.{◌≡◌, ◌≢◌, ◌+◌, ◌-◌, ◌<◌, ℕ, [], IfSome, IsTrue, false, length};
 ghost use Rattle.log_model.specs.Chain.{ring_place};
 ghost use Rattle.journal_model.specs.Disk.{Shape};
 ghost use Rattle.journal_world.specs.declared.round.Round.TheVariants.{Idle as NoRound, TailWrite, TailFlush};
 ghost use Rattle.journal_world.specs.Checkpoint.{HasRound, begun};
+ghost use Rattle.log_ledger.specs.declared.due.Due.TheVariants.{Flush};
 ghost use Rattle.log_ledger.specs.declared.progress.Progress.TheVariants.{Step, Done};
 ghost use Rattle.log_ledger.specs.Due.{Fits};
 ghost use Rattle.log_ledger.specs.Steps.{IsRoundProgress};
@@ -66,6 +67,21 @@ impl Ledger {
                 Due::Write(Area::Log, 0)
             }
             Round::TailFlush => Due::Flush(Area::Log),
+        }
+    }
+
+    /// The area of the round's due call, if that is a flush.
+    pub fn round_flush(&self) -> Option<Area>
+        requires can_run { CanRunOn self.now (length self.now.superblock.items) }
+        ensures { IfSome result (λ area. (shape : Shape) → Runs shape self.now → HasDue (engine_of shape self.now) (Flush area) []) }
+    {
+        match self.round {
+            Round::Copies { .. } => match self.pending.next(self.last_of_round()) {
+                Some(_) => None,
+                None => Some(Area::Home),
+            },
+            Round::TailFlush => Some(Area::Log),
+            Round::Idle | Round::TailWrite => None,
         }
     }
 
