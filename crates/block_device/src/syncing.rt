@@ -3,11 +3,12 @@
 //! No proof sees what a sync does: a `Durable` is made of one that answered Ok, and of nothing else.
 use journal_model::Area;
 use std::fs::File;
+use std::sync::Arc;
 
 /// Waits until an area's file is durable, without its device, which others may use meanwhile.
 #[derive(Drop)]
 pub struct Syncing {
-    file: File,
+    file: Arc<File>,
     area: Area,
     changes: u64,
 }
@@ -21,7 +22,7 @@ pub struct Durable {
 
 impl Syncing {
     /// A wait for an area's file, which its device has changed so often.
-    pub fn new(file: File, area: Area, changes: u64) -> Syncing {
+    pub fn new(file: Arc<File>, area: Area, changes: u64) -> Syncing {
         Syncing {
             file,
             area,

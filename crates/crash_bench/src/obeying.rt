@@ -14,7 +14,7 @@ use jbench_commands::obeying as one_thread;
 use jbench_commands::progress::ProgressLine;
 use jbench_files::{ScriptText, device_of, open_again, open_pair_within};
 use jbench_words::fault::{CommandStatus, refuse, refuse_file};
-use jbench_words::words::{BenchWords, CommandWords, ServeWords};
+use jbench_words::words::{BenchWords, CommandWords, LogPaths, ServeWords};
 use journal_model::Area;
 use nbd_server::Every;
 use std::io;
@@ -126,10 +126,32 @@ fn bench_device<
     let (alloc, progress) = (rt.alloc(), ProgressLine::new(rt));
     match words.threads {
         None => bench::bench(alloc, words, device, rt, progress, out, err),
-        Some(clients) => timed::bench(
-            threads, rt, alloc, words, clients, device, progress, out, err,
-        ),
+        Some(clients) => {
+            let device = open_twice(rt, device, words.paths);
+            timed::bench(
+                threads, rt, alloc, words, clients, device, progress, out, err,
+            )
+        }
     }
+}
+
+/// Opens a device's files once more, so that threads wait for a flush while others use the device. What can't be opened is waited for in
+/// the device.
+fn open_twice<C: Contents>(
+    rt: &HostRuntime,
+    device: FileDevice<C>,
+    paths: LogPaths<'_>,
+) -> FileDevice<C>
+    ensures { result ≡ device }
+{
+    let mut device = device;
+    if let Ok(file) = open_again(rt, paths.log) {
+        device.sync_by(rt.alloc(), Area::Log, file);
+    }
+    if let Ok(file) = open_again(rt, paths.home) {
+        device.sync_by(rt.alloc(), Area::Home, file);
+    }
+    device
 }
 
 /// Serves the home area of a log in two files over the standard streams, and opens both files before it reads one.
@@ -167,12 +189,7 @@ fn serve_device<T: Threads + Wait + Clock + Sync, C: Contents + Send, E: Write>(
 ) -> io::Result<Option<FileDevice<C>>>
     ensures { IfOk result (λ done. IfSome done (IsClosedLeft C.contents)) }
 {
-    let mut device = device;
-    for (area, path) in [(Area::Log, words.paths.log), (Area::Home, words.paths.home)] {
-        if let Ok(file) = open_again(rt, path) {
-            device.sync_by(area, file);
-        }
-    }
+    let device = open_twice(rt, device, words.paths);
     let out = BufWriter::with_capacity(rt.alloc(), GATHERED, rt.stdout())?;
     let ahead = HomePrefetch::new(device.fetcher(), threads);
     let interval = Every {

@@ -4,11 +4,12 @@ use journal_model::Area;
 use std::fs::File;
 use std::mem;
 use std::os::unix::fs::MetadataExt;
+use std::sync::Arc;
 
 /// An area's file, opened once more: the system then tells this opening of a failed sync, and the device's too.
 #[derive(Drop)]
 struct SecondOpening {
-    file: Option<File>,
+    file: Option<Arc<File>>,
     /// How often the device has changed the file, or tried to.
     changes: u64,
     /// That it was made durable, the last time that somebody waited for that.
@@ -28,7 +29,7 @@ impl SecondOpening {
         if self.changes == u64::MAX {
             return None;
         }
-        let file = self.file.as_ref()?.try_clone().ok()?;
+        let file = Arc::clone(self.file.as_ref()?).ok()?;
         Some(Syncing::new(file, area, self.changes))
     }
 
@@ -67,7 +68,7 @@ impl Apart {
     }
 
     /// From now on waits for an area go by this file.
-    pub(crate) fn give(&mut self, area: Area, file: File) {
+    pub(crate) fn give(&mut self, area: Area, file: Arc<File>) {
         self.of(area).file = Some(file);
     }
 

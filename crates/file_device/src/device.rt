@@ -27,6 +27,7 @@ use journal_model::Area;
 use std::alloc::Global;
 use std::fs::File;
 use std::marker::{Model, PhantomData};
+use std::sync::Arc;
 
 /// What is assumed of a device's files. No code can read it: a function over any `C: Contents` is proved for any contents, and for both
 /// effects of a failed write.
@@ -211,11 +212,15 @@ impl<C: Contents> FileDevice<C> {
         })
     }
 
-    /// Has flushes of an area waited for by another opening of its file (`Device::begin_flush`). Another file is not taken.
-    pub fn sync_by(&mut self, area: Area, file: File)
+    /// Has flushes of an area waited for by another opening of its file (`Device::begin_flush`). It takes no other file, and none without
+    /// memory.
+    pub fn sync_by(&mut self, alloc: Global, area: Area, file: File)
         ensures { self.new ≡ self.old }
     {
-        if self.files.is(area, &file) {
+        if !self.files.is(area, &file) {
+            return;
+        }
+        if let Ok(file) = Arc::new(alloc, file) {
             self.apart.give(area, file);
         }
     }

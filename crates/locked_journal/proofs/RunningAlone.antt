@@ -88,6 +88,10 @@ module _ {D : Type 0} (state : D → DeviceState) (old new : EngineValue D) wher
   step-refused _ (WasAborted is same stays faults) = Rests same stays.disk faults
   step-refused _ (DeviceFailed fault counted) = CommitFails fault counted
 
+  -- A flush that is begun, or whose wait is over, leaves engine and disk.
+  pub rests : new.engine ≡ old.engine → state new.device ≡ state old.device → StepsAlone state old new
+  rests same still = Rests same (ap (λ (s : DeviceState). s.disk) still) (ap (λ (s : DeviceState). s.faults) still)
+
   -- A commit step is a step alone, whatever it answers.
   pub commit-goes : (r : Result Progress JournalError) → IfOk r (λ p. StepDid p old.engine (state old.device).disk new.engine (state new.device).disk) →
       IfErr r (λ e. StepRefused old.engine (state old.device) new.engine (state new.device) e) → OnOk r ((state new.device).faults ≡ (state old.device).faults) →
