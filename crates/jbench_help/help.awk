@@ -28,19 +28,21 @@ function add(form, help) {
 }
 
 is_open { sub(/^/, "\""); line = text(); if (name == wanted) after = after "\n" line; next }
-/^pub\(crate\) const .*: Word = / { shared = $3; sub(":", "", shared) }
+/^pub\(crate\) const .*: Word =/ { shared = $3; sub(":", "", shared) }
 /^pub\(crate\) const .*: Usage = / { shared = ""; constant = "&" $3; sub(":", ",", constant) }
 /^    name: / && !shared { name = named[constant] = text(); next }
 /^    about: / { about[name] = text(); next }
 /^    after_help: / { text(); next }
 /^        &[A-Z]*,$/ { command[++commands] = named[$1]; command_about[commands] = about[named[$1]] }
 name != wanted && !shared { next }
-/^ *name: / { form = "--" text() }
-/^ *value: / { value = text(); shown = value == "" ? "" : "<" value ">" }
-/^ *is_option: true/ && shown { form = form " " shown }
-/^ *is_option: false/ { form = shown }
-/^ *help: / && shared { forms[shared] = form; helps[shared] = text() }
-/^ *help: / && !shared { add(form, text()) }
+# A word, on one line: its name, its value's name unless it is a flag, and its help, which has no quote.
+/(required|option|flag)! / {
+    split($0, quoted, "\"")
+    if (/required!/) form = "<" quoted[4] ">"
+    else form = "--" quoted[2] (/flag!/ ? "" : " <" quoted[4] ">")
+    help = quoted[/flag!/ ? 4 : 6]
+    if (shared) { forms[shared] = form; helps[shared] = help } else add(form, help)
+}
 /^    words: &|^        [A-Z]+,$/ { gsub(/[^A-Z]+/, " "); for (i = 1; i <= NF; i++) if ($i in helps) add(forms[$i], helps[$i]) }
 
 END {

@@ -1,5 +1,5 @@
 //! The help texts of the program and its commands, with the words that one command alone has.
-use crate::words::{HOME, JSON, LOG, SCRIPT, WAIT, Word};
+use crate::words::{HOME, JSON, LOG, SCRIPT, WAIT, Word, flag, option, required};
 
 /// A command's help.
 pub(crate) struct Usage {
@@ -93,48 +93,13 @@ the log; 2 verdict false.
 Example: jbench run examples/one_write.json --stop 4 --keep 4",
     words: &[
         SCRIPT,
-        Word {
-            name: "stop",
-            value: "K",
-            is_option: true,
-            help: "Stop the device at write K, at least 1 [default: at the end]",
-        },
-        Word {
-            name: "fail",
-            value: "K",
-            is_option: true,
-            help: "Let call K of the device fail, at least 1: reads, writes and flushes count; not with --stop",
-        },
-        Word {
-            name: "keep",
-            value: "LIST",
-            is_option: true,
-            help: "Unflushed writes that the image keeps: numbers with commas [default: none]",
-        },
-        Word {
-            name: "stop2",
-            value: "K",
-            is_option: true,
-            help: "Stop the opening of the image at its write K, at least 1 [default: it does not stop]",
-        },
-        Word {
-            name: "keep2",
-            value: "LIST",
-            is_option: true,
-            help: "Unflushed writes that the stop of --stop2 keeps: numbers with commas [default: none]",
-        },
-        Word {
-            name: "image-log",
-            value: "PATH",
-            is_option: true,
-            help: "The file that gets the log of the image; with --image-home [default: none]",
-        },
-        Word {
-            name: "image-home",
-            value: "PATH",
-            is_option: true,
-            help: "The file that gets the home area of the image; with --image-log [default: none]",
-        },
+        option! { "stop", "K", "Stop the device at write K, at least 1 [default: at the end]" },
+        option! { "fail", "K", "Let call K of the device fail, at least 1: reads, writes and flushes count; not with --stop" },
+        option! { "keep", "LIST", "Unflushed writes that the image keeps: numbers with commas [default: none]" },
+        option! { "stop2", "K", "Stop the opening of the image at its write K, at least 1 [default: it does not stop]" },
+        option! { "keep2", "LIST", "Unflushed writes that the stop of --stop2 keeps: numbers with commas [default: none]" },
+        option! { "image-log", "PATH", "The file that gets the log of the image; with --image-home [default: none]" },
+        option! { "image-home", "PATH", "The file that gets the home area of the image; with --image-log [default: none]" },
         JSON,
     ],
 };
@@ -170,12 +135,7 @@ script; 2 an F is not 0.
 Example: jbench sweep examples/two_blocks.json --fail",
     words: &[
         SCRIPT,
-        Word {
-            name: "fail",
-            value: "",
-            is_option: true,
-            help: "Let each device call of the script fail in turn, too",
-        },
+        flag! { "fail", "Let each device call of the script fail in turn, too" },
         JSON,
     ],
 };
@@ -283,66 +243,16 @@ Example: jbench format log home --block 4096 --length 1024",
     words: &[
         LOG,
         HOME,
-        Word {
-            name: "block",
-            value: "B",
-            is_option: true,
-            help: "Bytes of a block: 1024, 2048 or 4096 [default: 1024]",
-        },
-        Word {
-            name: "length",
-            value: "M",
-            is_option: true,
-            help: "Blocks of the log, 17 to 1048576 [default: 33]",
-        },
-        Word {
-            name: "home",
-            value: "N",
-            is_option: true,
-            help: "Blocks of the home area, 1 to 1048576 [default: 64]; with --keep-home the fewest that it may have [default: 1]",
-        },
-        Word {
-            name: "uuid",
-            value: "DIGITS",
-            is_option: true,
-            help: "The journal's UUID, 32 hex digits [default: aa 16 times]",
-        },
-        Word {
-            name: "wide",
-            value: "",
-            is_option: true,
-            help: "Give the log block numbers of 64 bits",
-        },
-        Word {
-            name: "keep-home",
-            value: "",
-            is_option: true,
-            help: "Leave HOME as it is: make an empty log beside it",
-        },
-        Word {
-            name: "new",
-            value: "",
-            is_option: true,
-            help: "Refuse a file that exists: both must be new, or with --keep-home the log",
-        },
-        Word {
-            name: "discard",
-            value: "",
-            is_option: true,
-            help: "Make the log even if that loses transactions: those that are not home, or what a refused log holds",
-        },
-        Word {
-            name: "zero-home",
-            value: "",
-            is_option: true,
-            help: "Write zeros over all of a block device that is HOME; not with --keep-home",
-        },
-        Word {
-            name: "force",
-            value: "",
-            is_option: true,
-            help: "Make the log even if a block device shows that another program keeps something there",
-        },
+        option! { "block", "B", "Bytes of a block: 1024, 2048 or 4096 [default: 1024]" },
+        option! { "length", "M", "Blocks of the log, 17 to 1048576 [default: 33]" },
+        option! { "home", "N", "Blocks of the home area, 1 to 1048576 [default: 64]; with --keep-home the fewest that it may have [default: 1]" },
+        option! { "uuid", "DIGITS", "The journal's UUID, 32 hex digits [default: aa 16 times]" },
+        flag! { "wide", "Give the log block numbers of 64 bits" },
+        flag! { "keep-home", "Leave HOME as it is: make an empty log beside it" },
+        flag! { "new", "Refuse a file that exists: both must be new, or with --keep-home the log" },
+        flag! { "discard", "Make the log even if that loses transactions: those that are not home, or what a refused log holds" },
+        flag! { "zero-home", "Write zeros over all of a block device that is HOME; not with --keep-home" },
+        flag! { "force", "Make the log even if a block device shows that another program keeps something there" },
     ],
 };
 
@@ -377,18 +287,8 @@ Examples:
   jbench dump log --copy 8",
     words: &[
         LOG,
-        Word {
-            name: "damaged",
-            value: "",
-            is_option: true,
-            help: "Print a log that is refused as damaged up to the damaged block",
-        },
-        Word {
-            name: "copy",
-            value: "PLACE",
-            is_option: true,
-            help: "Print the bytes of the copy in this block of LOG, in hex; not with --damaged or --json",
-        },
+        flag! { "damaged", "Print a log that is refused as damaged up to the damaged block" },
+        option! { "copy", "PLACE", "Print the bytes of the copy in this block of LOG, in hex; not with --damaged or --json" },
         JSON,
     ],
 };
@@ -410,18 +310,8 @@ Example: jbench cat log home 9 | xxd",
     words: &[
         LOG,
         HOME,
-        Word {
-            name: "block",
-            value: "BLOCK",
-            is_option: false,
-            help: "The block of the home area, counted from 0",
-        },
-        Word {
-            name: "wait",
-            value: "SECONDS",
-            is_option: true,
-            help: "Wait at most so long for a file that another program writes, 1 to 86400 [default: not at all]",
-        },
+        required! { "block", "BLOCK", "The block of the home area, counted from 0" },
+        option! { "wait", "SECONDS", "Wait at most so long for a file that another program writes, 1 to 86400 [default: not at all]" },
     ],
 };
 
@@ -504,18 +394,8 @@ Examples:
     words: &[
         LOG,
         HOME,
-        Word {
-            name: "before-damage",
-            value: "",
-            is_option: true,
-            help: "If the log is refused as damaged or ahead, take the complete transactions before the damage",
-        },
-        Word {
-            name: "dry-run",
-            value: "",
-            is_option: true,
-            help: "Write nothing, and tell what would be done",
-        },
+        flag! { "before-damage", "If the log is refused as damaged or ahead, take the complete transactions before the damage" },
+        flag! { "dry-run", "Write nothing, and tell what would be done" },
         WAIT,
         JSON,
     ],
@@ -588,31 +468,11 @@ Example: blocks 9 and 10 of the home area change together:
         LOG,
         HOME,
         SCRIPT,
-        Word {
-            name: "stay",
-            value: "",
-            is_option: true,
-            help: "Do not close the journal: leave what was committed in the log",
-        },
-        Word {
-            name: "keep-going",
-            value: "",
-            is_option: true,
-            help: "Go on after an operation that is refused, unless a file failed",
-        },
-        Word {
-            name: "make-room",
-            value: "",
-            is_option: true,
-            help: "If the log has no room for a commit, bring home what is committed, and then do it",
-        },
+        flag! { "stay", "Do not close the journal: leave what was committed in the log" },
+        flag! { "keep-going", "Go on after an operation that is refused, unless a file failed" },
+        flag! { "make-room", "If the log has no room for a commit, bring home what is committed, and then do it" },
         WAIT,
-        Word {
-            name: "json",
-            value: "",
-            is_option: true,
-            help: "Print a JSON object for each line",
-        },
+        flag! { "json", "Print a JSON object for each line" },
     ],
 };
 
@@ -654,36 +514,11 @@ Example: jbench bench log home --seconds 10 --copies 4",
     words: &[
         LOG,
         HOME,
-        Word {
-            name: "seconds",
-            value: "N",
-            is_option: true,
-            help: "Begin no transaction after so many seconds, 1 to 86400 [default: 10, or with --transactions no end]",
-        },
-        Word {
-            name: "transactions",
-            value: "N",
-            is_option: true,
-            help: "Commit at most so many transactions, at least 1 [default: no end]",
-        },
-        Word {
-            name: "copies",
-            value: "K",
-            is_option: true,
-            help: "Blocks of a transaction, at least 1 [default: 4]",
-        },
-        Word {
-            name: "threads",
-            value: "N",
-            is_option: true,
-            help: "Let N clients commit at once over one journal, 1 to 64, each in a thread [default: one, over the journal of one thread]",
-        },
-        Word {
-            name: "csv",
-            value: "",
-            is_option: true,
-            help: "Print a line of column names and one of values, with commas",
-        },
+        option! { "seconds", "N", "Begin no transaction after so many seconds, 1 to 86400 [default: 10, or with --transactions no end]" },
+        option! { "transactions", "N", "Commit at most so many transactions, at least 1 [default: no end]" },
+        option! { "copies", "K", "Blocks of a transaction, at least 1 [default: 4]" },
+        option! { "threads", "N", "Let N clients commit at once over one journal, 1 to 64, each in a thread [default: one, over the journal of one thread]" },
+        flag! { "csv", "Print a line of column names and one of values, with commas" },
         WAIT,
     ],
 };
@@ -715,24 +550,9 @@ Example:
     words: &[
         LOG,
         HOME,
-        Word {
-            name: "read-only",
-            value: "",
-            is_option: true,
-            help: "Refuse each request that changes bytes",
-        },
-        Word {
-            name: "export",
-            value: "NAME",
-            is_option: true,
-            help: "The name of the export, which is the default one too [default: the empty name]",
-        },
-        Word {
-            name: "commit-interval",
-            value: "SECONDS",
-            is_option: true,
-            help: "Commit what was answered so long after at the latest, 0 to 86400; 0: once much waits [default: 5]",
-        },
+        flag! { "read-only", "Refuse each request that changes bytes" },
+        option! { "export", "NAME", "The name of the export, which is the default one too [default: the empty name]" },
+        option! { "commit-interval", "SECONDS", "Commit what was answered so long after at the latest, 0 to 86400; 0: once much waits [default: 5]" },
         WAIT,
     ],
 };
@@ -750,12 +570,7 @@ Examples:
   source <(jbench completions bash)
   source <(jbench completions zsh)
   jbench completions fish | source",
-    words: &[Word {
-        name: "shell",
-        value: "SHELL",
-        is_option: false,
-        help: "bash, zsh or fish",
-    }],
+    words: &[required! { "shell", "SHELL", "bash, zsh or fish" }],
 };
 
 pub(crate) const MAN: Usage = Usage {

@@ -9,37 +9,49 @@ pub(crate) struct Word {
     pub(crate) help: &'static str,
 }
 
-pub(crate) const LOG: Word = Word {
-    name: "log",
-    value: "LOG",
-    is_option: false,
-    help: "The file of the log",
-};
+/// A required value: its name, its name in the help, and its help.
+macro_rules! required {
+    ($name:literal, $value:literal, $help:literal) => {
+        Word {
+            name: $name,
+            value: $value,
+            is_option: false,
+            help: $help,
+        }
+    };
+}
 
-pub(crate) const HOME: Word = Word {
-    name: "home_file",
-    value: "HOME",
-    is_option: false,
-    help: "The file of the home area",
-};
+/// An option with a value: its name, the value's name in the help, and its help.
+macro_rules! option {
+    ($name:literal, $value:literal, $help:literal) => {
+        Word {
+            name: $name,
+            value: $value,
+            is_option: true,
+            help: $help,
+        }
+    };
+}
 
-pub(crate) const SCRIPT: Word = Word {
-    name: "script",
-    value: "SCRIPT",
-    is_option: false,
-    help: "The file that holds the script, or - for standard input",
-};
+/// A flag: its name and its help.
+macro_rules! flag {
+    ($name:literal, $help:literal) => {
+        option! { $name, "", $help }
+    };
+}
 
-pub(crate) const WAIT: Word = Word {
-    name: "wait",
-    value: "SECONDS",
-    is_option: true,
-    help: "Wait at most so long for a file that another program has, 1 to 86400 [default: not at all]",
-};
+pub(crate) use flag;
+pub(crate) use option;
+pub(crate) use required;
 
-pub(crate) const JSON: Word = Word {
-    name: "json",
-    value: "",
-    is_option: true,
-    help: "Print one JSON object",
-};
+pub(crate) const LOG: Word = required! { "log", "LOG", "The file of the log" };
+
+pub(crate) const HOME: Word = required! { "home_file", "HOME", "The file of the home area" };
+
+pub(crate) const SCRIPT: Word =
+    required! { "script", "SCRIPT", "The file that holds the script, or - for standard input" };
+
+pub(crate) const WAIT: Word =
+    option! { "wait", "SECONDS", "Wait at most so long for a file that another program has, 1 to 86400 [default: not at all]" };
+
+pub(crate) const JSON: Word = flag! { "json", "Print one JSON object" };

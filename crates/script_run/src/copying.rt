@@ -7,7 +7,7 @@ ghost use Rattle.block_device.specs.State.{blocks_in};
 ghost use Rattle.script_run.specs.Copying.{CallsUntilFailure, CopyRefused, HasCopied, IsCopiedRun, IsCopy, IsCopyTried, IsOnlyRead, IsTriedRun};
 ghost use Rattle.script_run.specs.Left.{IsLeftVerdict};
 
-use crate::running::{CrashedRun, end_of_run, judge_left};
+use crate::running::{CrashedRun, judge_left, named_in, run_operations};
 use crate::stops::{Stop, Stops};
 use block_device::{Device, DeviceFault, MemDevice};
 use journal_model::{Area, JournalError};
@@ -34,8 +34,10 @@ pub fn run_copied<D: Device>(
     ensures right { IfOk result (λ right. right ≡ true) }
     ensures tried { (D.state to.new ≡ D.state to.old) ⊎ IsTriedRun script.now stops.now (D.state to.old) (D.state to.new) }
 {
-    let ended = end_of_run(alloc, script, stops.run, stops.failing_call, out)?;
-    judge_copied(alloc, ended.left, to, stops.opening, &ended.named, out)
+    let named = named_in(alloc, script)?;
+    let stopped = run_operations(alloc, script, stops.run.at_write, stops.failing_call, out)?;
+    let left = stopped.crash(stops.run.keep);
+    judge_copied(alloc, left, to, stops.opening, &named, out)
 }
 
 /// Copies a crash image to a device of the same shape, durably, and then dumps, opens and judges it as `judge_left` does.

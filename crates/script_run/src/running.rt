@@ -4,10 +4,11 @@ ghost use Rattle.std.specs.BTreeSet.{keys};
 ghost use Rattle.journal_model.specs.declared.number.Area.{Area};
 ghost use Rattle.block_device.specs.Memory.{crashed, state_of, writes_of};
 ghost use Rattle.journal_script.specs.declared.script.Operation.{Operation};
+ghost use Rattle.journal_script.specs.Named.{AreNamedBy};
 ghost use Rattle.script_client.specs.Outcomes.{Writes};
 ghost use Rattle.script_client.specs.Told.{IsLedTo, IsZeroHome};
 ghost use Rattle.script_run.specs.Disks.{disk_behind, run_state};
-ghost use Rattle.script_run.specs.Left.{HasRun, HasRunAnew, IsEndOf, IsLeftVerdict, IsRunOf, IsStoppedBy, after_call};
+ghost use Rattle.script_run.specs.Left.{HasRun, HasRunAnew, IsLeftVerdict, IsRunOf, IsStoppedBy, after_call};
 ghost use Rattle.script_run.specs.Verdict.{IsVerdict};
 
 use crate::disk::{NEVER, RunDevice, empty_log};
@@ -85,42 +86,17 @@ pub fn run(
     ensures run { IfOk result (IsRunOf script.now stops.now) }
     ensures right { IfOk result (λ right. right ≡ true) }
 {
-    let ended = end_of_run(alloc, script, stops.run, stops.failing_call, out)?;
-    judge_left(alloc, ended.left, stops.opening, &ended.named, out)
+    let named = named_in(alloc, script)?;
+    let stopped = run_operations(alloc, script, stops.run.at_write, stops.failing_call, out)?;
+    let left = stopped.crash(stops.run.keep);
+    judge_left(alloc, left, stops.opening, &named, out)
 }
 
-/// The crash image of a script's run, and the blocks that the script names.
-#[derive(Drop)]
-pub(crate) struct RunEnd {
-    /// The crash image.
-    pub(crate) left: CrashedRun,
-    /// The blocks that the script names.
-    pub(crate) named: NamedBlocks,
-}
-
-/// Runs a script's operations up to its stop, and prints a line for each.
-///
-/// # Errors
-///
-/// Those of `run`.
-pub(crate) fn end_of_run(
-    alloc: Global,
-    script: &Script,
-    stop: Stop<'_>,
-    failing_call: Option<u64>,
-    out: &mut impl Write,
-) -> Result<RunEnd, Fault>
-    ensures { IfOk result (λ ended. IsEndOf script.now stop.entry failing_call ended.left.image ended.left.recorded.sealed.items ended.left.recorded.acknowledged ended.named) }
+/// The blocks that a script names.
+pub(crate) fn named_in(alloc: Global, script: &Script) -> Result<NamedBlocks, JournalError>
+    ensures { IfOk result (AreNamedBy script.now) }
 {
-    let named = match script.named_blocks(alloc) {
-        Ok(named) => named,
-        Err(e) => return Err(Fault::Refused(JournalError::from(e))),
-    };
-    let stopped = run_operations(alloc, script, stop.at_write, failing_call, out)?;
-    Ok(RunEnd {
-        left: stopped.crash(stop.keep),
-        named,
-    })
+    Ok(script.named_blocks(alloc)?)
 }
 
 /// Runs a script's operations over a device in memory that stops at write `stop`, or at the end, and prints a line for each. After a

@@ -3,6 +3,7 @@ use Rattle.std.specs.Prelude.{Result, Ok, Err, IfOk}
 use Rattle.std.proofs.lemmas.Result.{IfOk-weaker}
 use Rattle.script_run.specs.Copying.{IsCopiedRun, IsCopy}
 use Rattle.script_run.specs.Left.{IsLeftVerdict}
+use Rattle.script_run.proofs.Ends.{end-of-run}
 use Rattle.script_run.proofs.Verdicts.{run-right}
 use Rattle.script_run.proofs.copying.run_copied.Goals as goal
 
@@ -14,14 +15,18 @@ both (Err e) P Q first second = tt
 -- the run was led to what is copied and judged
 pub returns-clause-run : goal.returns-clause-run
 returns-clause-run g c =
-    let left = c.in_ok-ended.ended.left in
-    let named = c.in_ok-ended.ended.named in
+    let stopped = c.in_ok-stopped.ensures in
+    let left = c.crash-left.result in
+    let named = c.in_ok-named.named in
+    let end =
+    end-of-run c.args.script.now c.args.stops.now.run c.args.stops.now.failing_call c.in_ok-stopped.stopped left named stopped.outcomes.lines stopped.led stopped.outcomes.are stopped.stop
+    (record { each = c.crash-left.ensures.image; shape_is = c.crash-left.ensures.shape }) c.crash-left.ensures.recorded c.in_ok-named.ensures in
     let to = g.D.Device.state c.judge_copied.new.to in
     let Judged = IsLeftVerdict left.image c.args.stops.now.opening left.recorded.sealed.items left.recorded.acknowledged named in
     IfOk-weaker c.judge_copied.result (λ right. Judged right × IsCopy left.image to) (IsCopiedRun c.args.script.now c.args.stops.now to)
     (λ right is. record {
       image = left.image;
-      run = record { sealed = left.recorded.sealed.items; shown = left.recorded.acknowledged; named = named; end = c.in_ok-ended.ensures; verdict = is.0 };
+      run = record { sealed = left.recorded.sealed.items; shown = left.recorded.acknowledged; named = named; end = end; verdict = is.0 };
       copy = is.1;
     })
     (both c.judge_copied.result Judged (λ right. IsCopy left.image to) c.judge_copied.ensures.verdict c.judge_copied.ensures.copy)
@@ -35,12 +40,17 @@ returns-clause-right g c =
 -- and the copy was tried
 pub returns-clause-tried : goal.returns-clause-tried
 returns-clause-tried g c =
-    let left = c.in_ok-ended.ended.left in
+    let stopped = c.in_ok-stopped.ensures in
+    let left = c.crash-left.result in
+    let named = c.in_ok-named.named in
+    let end =
+    end-of-run c.args.script.now c.args.stops.now.run c.args.stops.now.failing_call c.in_ok-stopped.stopped left named stopped.outcomes.lines stopped.led stopped.outcomes.are stopped.stop
+    (record { each = c.crash-left.ensures.image; shape_is = c.crash-left.ensures.shape }) c.crash-left.ensures.recorded c.in_ok-named.ensures in
     inr (record {
       image = left.image;
       sealed = left.recorded.sealed.items;
       shown = left.recorded.acknowledged;
-      named = c.in_ok-ended.ended.named;
-      end = c.in_ok-ended.ensures;
+      named = named;
+      end = end;
       tried = c.judge_copied.ensures.tried;
     })
