@@ -29,6 +29,10 @@ pub enum DeviceStep {
     Flushes(Area),
     /// A flush of this area fails.
     CantFlush(Area),
+    /// A flush of this area is begun, and waited for without the device.
+    WaitsApart(Area),
+    /// It can't be waited for so.
+    CantWaitApart(Area),
 }
 
 /// Fills a block, if it exists.
@@ -65,6 +69,18 @@ fn reads_all<D: Device>(device: &mut D, area: Area, bytes: &[u8]) -> bool {
     device.blocks(area) == bytes.len() as u64
 }
 
+/// Waits for an area's flush without the device; whether that was done, if the device lets it be.
+fn wait_apart<D: Device>(device: &mut D, area: Area) -> Option<bool> {
+    let syncing = device.begin_flush(area)?;
+    match syncing.wait() {
+        Some(durable) => {
+            device.end_flush(durable);
+            Some(true)
+        }
+        None => Some(false),
+    }
+}
+
 /// Makes a step's call; whether its result is the expected one.
 fn is_so<D: Device>(device: &mut D, step: &DeviceStep) -> bool {
     match *step {
@@ -78,6 +94,8 @@ fn is_so<D: Device>(device: &mut D, step: &DeviceStep) -> bool {
         DeviceStep::CantRead(area, block) => read(device, area, block) == Some(Err(DeviceFault)),
         DeviceStep::Flushes(area) => device.flush(area) == Ok(()),
         DeviceStep::CantFlush(area) => device.flush(area) == Err(DeviceFault),
+        DeviceStep::WaitsApart(area) => wait_apart(device, area) == Some(true),
+        DeviceStep::CantWaitApart(area) => wait_apart(device, area).is_none(),
     }
 }
 

@@ -165,6 +165,41 @@ fn a_device_over_two_files_has_their_whole_blocks(rt: HostRuntime) -> Result<(),
     Ok(())
 }
 
+/// A case's device with its log opened once more, and for home a file that is not its own.
+fn opened_twice(rt: &HostRuntime, case: &Case) -> io::Result<FileDevice<UnknownContents>> {
+    let mut device = device_of(rt, case)?;
+    let log = path_of(rt, case.folder, "log")?;
+    device.sync_by(rt.alloc(), LOG, open(rt, log.as_str())?);
+    device.sync_by(rt.alloc(), HOME, open(rt, log.as_str())?);
+    Ok(device)
+}
+
+/// A flush is waited for without the device by a second opening of the area's own file, and then made.
+#[test]
+fn a_flush_is_waited_for_apart(rt: HostRuntime) -> Result<(), Fail> {
+    const CASE: Case = Case {
+        folder: "second_opening_test",
+        log: TestFile::Written(b"aaaabbbb"),
+        home: Some(TestFile::Written(b"cccc")),
+        steps: &[
+            DeviceStep::Writes(LOG, 0, 0xa),
+            DeviceStep::WaitsApart(LOG),
+            DeviceStep::Flushes(LOG),
+            DeviceStep::WaitsApart(LOG),
+            DeviceStep::Writes(LOG, 1, 0xb),
+            DeviceStep::Flushes(LOG),
+            DeviceStep::CantWaitApart(HOME),
+            DeviceStep::Flushes(HOME),
+        ],
+        files: &[
+            ("log", b"\x0a\x0a\x0a\x0a\x0b\x0b\x0b\x0b"),
+            ("home", b"cccc"),
+        ],
+    };
+    expect(&rt, &called(&rt, opened_twice(&rt, &CASE)?, &CASE)?, &RIGHT);
+    Ok(())
+}
+
 /// The device reads through a handle that can't write, and flushes home.
 #[test]
 fn a_log_alone_has_no_home_block(rt: HostRuntime) -> Result<(), Fail> {
